@@ -1,0 +1,58 @@
+-- What a text is encoded as: tokens, and stretches of bytes that are cut into units.
+use Prim.Native.Nat.{ℕ}
+use mathlib.Core.Bool.{Bool, true, false, not, cond, _&&_}
+use mathlib.Core.List.{List, [], _∷_}
+use Rattle.utf8.specs.Lists.{isEmpty}
+use Rattle.model.specs.Model.{Model, tokens}
+use Rattle.model.specs.Mark.{startsWithMark}
+use Rattle.normalise.specs.Steps.{stepped}
+use Rattle.normalise.specs.Spaces.{metaspaced}
+use Rattle.units.specs.Kinds.{rawPath}
+use Rattle.units.specs.declared.RawPrepend.{RawPrepend}
+use Rattle.units.specs.declared.RawPrepend.the-variants.{Never, Unguarded, GuardedAlways, GuardedFirst}
+use Rattle.units.specs.declared.RawPath.{RawPath}
+use Rattle.units.specs.declared.RawPath.the-variants.{Absent, Present}
+use Rattle.sections.specs.Sections.{Item, plain, takenApart, Section, bytesOf, sections}
+use Rattle.sections.specs.SecondList.{NormalPart, normalParts}
+
+-- A stretch of bytes: on the raw path a section of the text, off it a normalized part.
+pub record Stretch : Type 0 where
+  pub bytes : List ℕ
+  pub virtual : Bool
+  pub raw : Bool
+
+-- "Unguarded always; GuardedAlways if it doesn't begin with a mark or space; GuardedFirst likewise but only in the first section".
+unfoldable pub prependsMark : RawPrepend → Bool → List ℕ → Bool
+prependsMark Never opening bytes = false
+prependsMark Unguarded opening bytes = true
+prependsMark GuardedAlways opening bytes = not (startsWithMark true bytes)
+prependsMark GuardedFirst opening bytes = opening && not (startsWithMark true bytes)
+
+-- "A continuation's opening section never."
+unfoldable pub virtualMark : RawPrepend → Bool → Bool → List ℕ → Bool
+virtualMark prepend continuation opening bytes = not (continuation && opening) && prependsMark prepend opening bytes
+
+-- Nothing stands for no bytes.
+unfoldable pub stretch : List ℕ → Bool → Bool → List (Item Stretch)
+stretch bytes virtual raw = cond (isEmpty bytes) [] (plain (record { bytes = bytes; virtual = virtual; raw = raw }) ∷ [])
+
+-- "On the raw path a section gets a virtual mark in front."
+unfoldable pub rawStretch : RawPrepend → Bool → List ℕ → Section → List (Item Stretch)
+rawStretch prepend continuation text section =
+    let bytes = bytesOf text section in stretch bytes (virtualMark prepend continuation (section .opening) bytes) true
+
+-- "Then metaspace on each part".
+unfoldable pub normalStretch : Model → NormalPart → List (Item Stretch)
+normalStretch m part = stretch (metaspaced (m .metaspace) (part .first) (part .bytes)) false false
+
+-- "Otherwise: steps, then second-list tokens".
+unfoldable pub normalPartsOf : Model → List ℕ → Section → List (Item NormalPart)
+normalPartsOf m text section = normalParts (tokens (m .second)) (section .opening) (stepped m (bytesOf text section))
+
+unfoldable pub stretchesOf : Model → RawPath → Bool → List ℕ → Section → List (Item Stretch)
+stretchesOf m (Present prepend) continuation text section = rawStretch prepend continuation text section
+stretchesOf m Absent continuation text section = takenApart (normalStretch m) (normalPartsOf m text section)
+
+-- The tokens and stretches of a text, in their order.
+unfoldable pub parts : Model → Bool → List ℕ → List (Item Stretch)
+parts m continuation text = takenApart (stretchesOf m (rawPath m) continuation text) (sections (tokens (m .first)) text)

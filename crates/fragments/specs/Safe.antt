@@ -1,0 +1,54 @@
+-- Safe places: where a text may be cut into fragments.
+use Prim.Native.Nat.{ℕ, _+_, _-_}
+use mathlib.Core.Bool.{Bool, true, false, not, cond, _&&_, _||_}
+use mathlib.Core.List.{List, [], _∷_}
+use lib.Dec.{eqb, ltb}
+use lib.ListN.{length, take, drop}
+use Rattle.utf8.specs.Lists.{any, below, startsWith, within, Range}
+use Rattle.utf8.specs.WhiteSpace.{trimEnd}
+use Rattle.model.specs.Model.{Model, Token, tokens}
+use Rattle.units.specs.Kinds.{wordSplit, rawPath}
+use Rattle.units.specs.Units.{markCuts}
+use Rattle.units.specs.declared.RawPrepend.{RawPrepend}
+use Rattle.units.specs.declared.RawPrepend.the-variants as prepend
+use Rattle.units.specs.declared.RawPath.{RawPath}
+use Rattle.units.specs.declared.RawPath.the-variants as raw
+use Rattle.sections.specs.Sections.{whiteLength}
+
+unfoldable pub isUnguarded : RawPath → Bool
+isUnguarded raw.Absent = false
+isUnguarded (raw.Present prepend.Never) = false
+isUnguarded (raw.Present prepend.Unguarded) = true
+isUnguarded (raw.Present prepend.GuardedAlways) = false
+isUnguarded (raw.Present prepend.GuardedFirst) = false
+
+-- "A first-list token that holds a space or byte 0xE2, or strips, or any token when Unguarded".
+unfoldable pub blocks : Bool → Token → Bool
+blocks unguarded t =
+    any (λ (b : ℕ). eqb b 0x20 || eqb b 0xE2) (t .content) || t .lstrip || t .rstrip || unguarded
+
+-- "From the White_Space-trimmed length of text before s (lstrip) or s+1".
+unfoldable pub blockStart : List ℕ → Token → ℕ → ℕ
+blockStart text t s = cond (t .lstrip) (length (trimEnd (take s text))) (s + 1)
+
+-- "To e plus following White_Space (rstrip), or e (Unguarded), or e-1".
+unfoldable pub blockEnd : Bool → List ℕ → Token → ℕ → ℕ
+blockEnd unguarded text t e = cond (t .rstrip) (e + whiteLength (drop e text)) (cond unguarded e (e - 1))
+
+-- The block of the occurrence at s; "both ends blocked".
+unfoldable pub block : Bool → List ℕ → Token → ℕ → Range
+block unguarded text t s = (blockStart text t s, blockEnd unguarded text t (s + length (t .content)))
+
+-- "Each occurrence s..e, overlapping ones too": the place lies in the block of one.
+unfoldable pub blockedBy : Bool → List ℕ → ℕ → Token → Bool
+blockedBy unguarded text p t =
+    blocks unguarded t
+    && any (λ (s : ℕ). startsWith (t .content) (drop s text) && within (block unguarded text t s) p) (below (length text))
+
+unfoldable pub isBlocked : Model → List ℕ → ℕ → Bool
+isBlocked m text p = any (blockedBy (isUnguarded (rawPath m)) text p) (tokens (m .first))
+
+-- "The place is above 0, a mark or space starts there, doesn't extend a run (EveryMark: no such test), isn't spanned over the whole
+-- text, and lies in no block."
+unfoldable pub isSafe : Model → List ℕ → ℕ → Bool
+isSafe m text p = ltb 0 p && markCuts m (wordSplit m) true text p && not (isBlocked m text p)

@@ -1,0 +1,1 @@
+// Where a text may be cut for workers.

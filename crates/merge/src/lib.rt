@@ -1,0 +1,1 @@
+// The starting ids of a unit and their ranked merge.

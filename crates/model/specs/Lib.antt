@@ -1,0 +1,4 @@
+pub mod Model
+pub mod Mark
+pub mod Answers
+pub mod Check

@@ -1,0 +1,3 @@
+pub mod Matches
+pub mod Sections
+pub mod SecondList

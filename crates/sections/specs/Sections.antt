@@ -1,0 +1,67 @@
+-- Sections: the text between tokens of the first list.
+use Prim.Native.Nat.{ℕ, _+_, _-_}
+use mathlib.Core.Bool.{Bool, true, false, cond}
+use mathlib.Core.List.{List, [], _∷_, _++_}
+use lib.Dec.{ltb}
+use lib.ListN.{length, drop}
+use lib.Seq.{slice}
+use Rattle.utf8.specs.Lists.{isEmpty}
+use Rattle.utf8.specs.WhiteSpace.{trimStart, trimEnd}
+use Rattle.model.specs.Model.{Token}
+use Rattle.sections.specs.Matches.{Match, end, matches}
+
+-- What a text comes to: tokens by their ids, and what stands between them.
+pub data Item (A : Type 0) : Type 0 where
+  token : ℕ → Item A
+  plain : A → Item A
+
+-- The tokens as they are, and what stands between them taken apart further.
+abbrev pub takenApart : {A B : Type 0} → (A → List (Item B)) → List (Item A) → List (Item B)
+takenApart f [] = []
+takenApart f (token id ∷ items) = token id ∷ takenApart f items
+takenApart f (plain a ∷ items) = f a ++ takenApart f items
+
+-- "lstrip trims White_Space off the section before": where the section that begins at start ends before the match.
+unfoldable pub stopBefore : List ℕ → ℕ → Match → ℕ
+stopBefore text start match =
+    cond (match .token .lstrip) (start + length (trimEnd (slice start (match .place) text))) (match .place)
+
+-- The length of the White_Space at the left end.
+unfoldable pub whiteLength : List ℕ → ℕ
+whiteLength text = length text - length (trimStart text)
+
+-- "rstrip skips it after": where the section after the match begins.
+unfoldable pub startAfter : List ℕ → Match → ℕ
+startAfter text match = cond (match .token .rstrip) (end match + whiteLength (drop (end match) text)) (end match)
+
+-- A section of the text, as its place in it. It is the opening one if no token was taken before it.
+pub record Section : Type 0 where
+  pub start : ℕ
+  pub stop : ℕ
+  pub opening : Bool
+
+unfoldable pub bytesOf : List ℕ → Section → List ℕ
+bytesOf text section = slice (section .start) (section .stop) text
+
+-- "Empty sections give nothing."
+unfoldable pub sectionOf : ℕ → ℕ → Bool → List (Item Section)
+sectionOf start stop opening = cond (ltb start stop) (plain (record { start = start; stop = stop; opening = opening }) ∷ []) []
+
+-- "A match that starts before the current section start is skipped."
+unfoldable pub isSwallowed : ℕ → Match → Bool
+isSwallowed start match = ltb (match .place) start
+
+-- The sections from start on, and the tokens of the matches between them.
+abbrev pub sectionsFrom : List ℕ → ℕ → Bool → List Match → List (Item Section)
+sectionsFrom text start opening [] = sectionOf start (length text) opening
+sectionsFrom text start opening (match ∷ later) =
+    let skipped = sectionsFrom text start opening later in
+    let taken =
+    sectionOf start (stopBefore text start match) opening
+    ++ token (match .token .id) ∷ sectionsFrom text (startAfter text match) false later in
+    cond (isSwallowed start match) skipped taken
+
+-- "An empty text with an empty first list still runs its steps": without tokens the whole text is the one section, empty or not.
+unfoldable pub sections : List Token → List ℕ → List (Item Section)
+sections tokens text =
+    cond (isEmpty tokens) (plain (record { start = 0; stop = length text; opening = true }) ∷ []) (sectionsFrom text 0 true (matches tokens text))

@@ -1,0 +1,1 @@
+// Added tokens in a text, and the sections between them.

@@ -1,0 +1,4 @@
+pub mod Cases
+pub mod Toys
+pub mod Table
+pub mod Settled

@@ -1,0 +1,1 @@
+// Theorems over the definitions of the other crates; there is no code.

@@ -1,0 +1,107 @@
+-- Kinds of split, crossing pieces, the raw path.
+use Prim.Native.Nat.{ℕ, _+_}
+use mathlib.Core.Bool.{Bool, true, false, not, cond, _&&_, _||_}
+use mathlib.Core.List.{List, [], _∷_, map}
+use lib.Dec.{ltb}
+use lib.ListN.{length, take, drop}
+use Rattle.utf8.specs.Lists.{isEmpty, any, filter, joinMap, same, below}
+use Rattle.utf8.specs.Chars.{valid}
+use Rattle.model.specs.Model.{Model, pieces, contents, stepsOf, stepString}
+use Rattle.model.specs.Mark.{mark, space, startsWithMark, endsWithMark}
+use Rattle.model.specs.declared.Step.{Step}
+use Rattle.model.specs.declared.Step.the-variants.{Prepend, Replace, CollapseSpaces, Strip}
+use Rattle.model.specs.declared.Metaspace.{Metaspace}
+use Rattle.model.specs.declared.Metaspace.the-variants.{Absent, Present}
+use Rattle.model.specs.declared.PrependScheme.{PrependScheme}
+use Rattle.model.specs.declared.PrependScheme.the-variants as scheme
+use Rattle.units.specs.declared.WordSplit.{WordSplit}
+use Rattle.units.specs.declared.WordSplit.the-variants as kind
+use Rattle.units.specs.declared.RawPrepend.{RawPrepend}
+use Rattle.units.specs.declared.RawPrepend.the-variants as prepend
+use Rattle.units.specs.declared.RawPath.{RawPath}
+use Rattle.units.specs.declared.RawPath.the-variants as raw
+
+-- "(pre, post) are the parts around it."
+pub record Crossing : Type 0 where
+  pub pre : List ℕ
+  pub post : List ℕ
+
+-- "A mark after a non-mark character", where p is the mark's place.
+unfoldable pub crossesAt : List ℕ → ℕ → Bool
+crossesAt bytes p = ltb 0 p && startsWithMark false (drop p bytes) && not (endsWithMark false (take p bytes))
+
+unfoldable pub crossingAt : List ℕ → ℕ → Crossing
+crossingAt bytes p = record { pre = take p bytes; post = drop (p + 3) bytes }
+
+unfoldable pub crossingsOf : List ℕ → List Crossing
+crossingsOf bytes = map (crossingAt bytes) (filter (crossesAt bytes) (below (length bytes)))
+
+-- "Look at each UTF-8 piece."
+unfoldable pub crossings : Model → List Crossing
+crossings m = joinMap crossingsOf (filter valid (pieces m))
+
+-- The bytes hold a mark or a space.
+unfoldable pub holdsMark : List ℕ → Bool
+holdsMark bytes = any (λ (p : ℕ). startsWithMark true (drop p bytes)) (below (length bytes))
+
+-- "Pre or post holds a mark or a space."
+unfoldable pub isTangled : Crossing → Bool
+isTangled c = holdsMark (c .pre) || holdsMark (c .post)
+
+unfoldable pub splits : Metaspace → Bool
+splits Absent = false
+splits (Present prepend split) = split
+
+-- "Metaspace with split: EveryMark." "If pre or post holds a mark or a space, or 32 are already noted (equal pieces count again),
+-- the kind is None. Else SpaceRuns."
+unfoldable pub wordSplit : Model → WordSplit
+wordSplit m =
+    cond (splits (m .metaspace)) kind.EveryMark
+    (cond (any isTangled (crossings m) || ltb 32 (length (crossings m))) kind.None kind.SpaceRuns)
+
+-- "Prepend mark".
+unfoldable pub isPrependMark : List ℕ → Step → Bool
+isPrependMark bytes (Prepend content) = same (stepString bytes content) mark
+isPrependMark bytes (Replace pattern content) = false
+isPrependMark bytes (CollapseSpaces content) = false
+isPrependMark bytes (Strip left right) = false
+
+-- "Replace space by mark".
+unfoldable pub isSpaceReplace : List ℕ → Step → Bool
+isSpaceReplace bytes (Prepend content) = false
+isSpaceReplace bytes (Replace pattern content) = same (stepString bytes pattern) space && same (stepString bytes content) mark
+isSpaceReplace bytes (CollapseSpaces content) = false
+isSpaceReplace bytes (Strip left right) = false
+
+unfoldable pub isPresent : Metaspace → Bool
+isPresent Absent = false
+isPresent (Present prepend split) = true
+
+-- "GuardedAlways, GuardedFirst or Never by the scheme (Never without metaspace)."
+unfoldable pub prependOf : Metaspace → RawPrepend
+prependOf Absent = prepend.Never
+prependOf (Present scheme.Never split) = prepend.Never
+prependOf (Present scheme.Always split) = prepend.GuardedAlways
+prependOf (Present scheme.First split) = prepend.GuardedFirst
+
+-- The raw path that the steps and metaspace alone would give.
+unfoldable pub rawPathOf : List ℕ → List Step → Metaspace → RawPath
+rawPathOf bytes [] metaspace = cond (isPresent metaspace) (raw.Present (prependOf metaspace)) raw.Absent
+rawPathOf bytes (step ∷ []) metaspace = cond (isSpaceReplace bytes step) (raw.Present (prependOf metaspace)) raw.Absent
+rawPathOf bytes (step ∷ next ∷ []) metaspace =
+    cond (isPrependMark bytes step && isSpaceReplace bytes next && not (splits metaspace)) (raw.Present prepend.Unguarded) raw.Absent
+rawPathOf bytes (step ∷ next ∷ other ∷ steps) metaspace = raw.Absent
+
+unfoldable pub isNone : WordSplit → Bool
+isNone kind.None = true
+isNone kind.SpaceRuns = false
+isNone kind.EveryMark = false
+
+-- "Raw path: none for kind None or where the second token list is non-empty."
+unfoldable pub rawPath : Model → RawPath
+rawPath m =
+    cond (isNone (wordSplit m) || not (isEmpty (contents (m .second)))) raw.Absent (rawPathOf (m .stepBytes) (stepsOf m) (m .metaspace))
+
+unfoldable pub hasRawPath : RawPath → Bool
+hasRawPath raw.Absent = false
+hasRawPath (raw.Present p) = true

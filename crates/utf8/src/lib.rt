@@ -1,0 +1,1 @@
+// UTF-8 by RFC 3629, and Unicode's White_Space.
