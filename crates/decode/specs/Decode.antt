@@ -6,7 +6,7 @@ use lib.Dec.{ltb}
 use lib.ListN.{length, drop}
 use Rattle.utf8.specs.Lists.{any, count, filter, joinMap, same, startsWith}
 use Rattle.utf8.specs.Chars.{chars, isChar}
-use Rattle.model.specs.Model.{Model, piece, pieceCount, stepsOf}
+use Rattle.model.specs.Model.{Model, piece, piecesOf, stepsOf}
 use Rattle.model.specs.Mark.{mark, space}
 use Rattle.model.specs.Answers.{lowest, done, outcome, Outcome}
 use Rattle.model.specs.Check.{modelTests}
@@ -17,16 +17,16 @@ use Rattle.model.specs.declared.Metaspace.the-variants.{Absent, Present}
 use Rattle.model.specs.declared.PrependScheme.{PrependScheme}
 use Rattle.model.specs.declared.PrependScheme.the-variants.{Never, Always, First}
 
-unfoldable pub hasPiece : Model → ℕ → Bool
-hasPiece m id = ltb id (pieceCount m)
+unfoldable pub hasPiece : List (List ℕ) → ℕ → Bool
+hasPiece pieces id = ltb id (length pieces)
 
 -- "Join the pieces; ids not below the piece count are skipped".
-unfoldable pub joinedBytes : Model → List ℕ → List ℕ
-joinedBytes m ids = joinMap (piece m) (filter (hasPiece m) ids)
+unfoldable pub joinedBytes : List (List ℕ) → List ℕ → List ℕ
+joinedBytes pieces ids = joinMap (piece pieces) (filter (hasPiece pieces) ids)
 
 -- "And counted".
-unfoldable pub skips : Model → List ℕ → ℕ
-skips m ids = count (λ (id : ℕ). not (hasPiece m id)) ids
+unfoldable pub skips : List (List ℕ) → List ℕ → ℕ
+skips pieces ids = count (λ (id : ℕ). not (hasPiece pieces id)) ids
 
 -- EF BF BD.
 unfoldable pub replacement : List ℕ
@@ -53,15 +53,15 @@ isPrepend (CollapseSpaces content) = false
 isPrepend (Strip left right) = false
 
 -- "If metaspace is present with a scheme other than Never, or any Prepend step exists".
-unfoldable pub prependsSpace : Model → Bool
-prependsSpace m = prependsMark (m .metaspace) || any isPrepend (stepsOf m)
+unfoldable pub prependsSpace : Metaspace → List Step → Bool
+prependsSpace metaspace steps = prependsMark metaspace || any isPrepend steps
 
 -- "One leading space goes."
 unfoldable pub leadingSpaceGone : Bool → List ℕ → List ℕ
 leadingSpaceGone wanted bytes = cond (wanted && startsWith space bytes) (drop 1 bytes) bytes
 
 unfoldable pub decodedBytes : Model → List ℕ → List ℕ
-decodedBytes m ids = leadingSpaceGone (prependsSpace m) (marksSpaced (straysReplaced (joinedBytes m ids)))
+decodedBytes m ids = leadingSpaceGone (prependsSpace (m .metaspace) (stepsOf m)) (marksSpaced (straysReplaced (joinedBytes (piecesOf m) ids)))
 
 -- "Decode tests no text"; out is the result buffer's length.
 unfoldable pub decodeNumber : Model → List ℕ → ℕ → ℕ
@@ -71,4 +71,4 @@ unfoldable pub decodeOutcome : Model → List ℕ → List ℕ → Outcome
 decodeOutcome m ids out =
     let number = decodeNumber m ids (length out) in
     let result = decodedBytes m ids in
-    outcome number 0 (done (length result) 0 (skips m ids)) result out
+    outcome number 0 (done (length result) 0 (skips (piecesOf m) ids)) result out

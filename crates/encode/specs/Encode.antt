@@ -6,7 +6,7 @@ use lib.Dec.{ltb}
 use lib.ListN.{length}
 use Rattle.utf8.specs.Lists.{join, joinMap, count, sum}
 use Rattle.utf8.specs.Chars.{valid}
-use Rattle.model.specs.Model.{Model, rowOf, tokens}
+use Rattle.model.specs.Model.{Model, rowOf, mergeRows}
 use Rattle.model.specs.Answers.{lowest, done, placeOf, outcome, ScratchOutcome, withScratch}
 use Rattle.model.specs.Check.{modelTests}
 use Rattle.normalise.specs.Steps.{stepOutputs}
@@ -16,7 +16,7 @@ use Rattle.units.specs.Kinds.{rawPath, hasRawPath}
 use Rattle.units.specs.Units.{units}
 use Rattle.units.specs.declared.RawPath.{RawPath}
 use Rattle.units.specs.declared.RawPath.the-variants.{Absent, Present}
-use Rattle.merge.specs.Start.{startingIds, isDropped, unitChars, withVirtualMark}
+use Rattle.merge.specs.Start.{vocabularyOf, startingIds, isDropped, unitChars, withVirtualMark}
 use Rattle.merge.specs.Merge.{merged}
 use Rattle.sections.specs.Sections.{Item, token, plain, Section, bytesOf, sections}
 use Rattle.sections.specs.SecondList.{NormalPart}
@@ -28,7 +28,7 @@ stretchUnits m s = withVirtualMark (s .virtual) (map (unitChars (s .raw)) (units
 
 -- The starting ids of a unit, merged.
 unfoldable pub unitIds : Model → List (List ℕ) → List ℕ
-unitIds m unit = merged (rowOf m) (joinMap (startingIds m) unit)
+unitIds m unit = merged (rowOf (mergeRows m)) (joinMap (startingIds (vocabularyOf m)) unit)
 
 unfoldable pub idsOf : Model → Item Stretch → List ℕ
 idsOf m (token id) = id ∷ []
@@ -40,7 +40,7 @@ encodedIds m continuation text = joinMap (idsOf m) (parts m continuation text)
 -- "A character or virtual mark not spelled whole is dropped, counted once."
 unfoldable pub dropsOf : Model → Item Stretch → ℕ
 dropsOf m (token id) = 0
-dropsOf m (plain s) = count (isDropped m) (join (stretchUnits m s))
+dropsOf m (plain s) = count (isDropped (vocabularyOf m)) (join (stretchUnits m s))
 
 unfoldable pub drops : Model → Bool → List ℕ → ℕ
 drops m continuation text = sum (map (dropsOf m) (parts m continuation text))
@@ -48,7 +48,7 @@ drops m continuation text = sum (map (dropsOf m) (parts m continuation text))
 -- "Starting ids over all sections, plus one per token emitted".
 unfoldable pub startsOf : Model → Item Stretch → ℕ
 startsOf m (token id) = 1
-startsOf m (plain s) = length (joinMap (startingIds m) (join (stretchUnits m s)))
+startsOf m (plain s) = length (joinMap (startingIds (vocabularyOf m)) (join (stretchUnits m s)))
 
 unfoldable pub startingCount : Model → Bool → List ℕ → ℕ
 startingCount m continuation text = sum (map (startsOf m) (parts m continuation text))
@@ -66,7 +66,7 @@ sectionOutputs m text (plain section) =
 -- The outputs that 11 looks at: those of "encoding off the raw path".
 unfoldable pub encodeOutputs : Model → RawPath → List ℕ → List (List ℕ)
 encodeOutputs m (Present prepend) text = []
-encodeOutputs m Absent text = joinMap (sectionOutputs m text) (sections (tokens (m .first)) text)
+encodeOutputs m Absent text = joinMap (sectionOutputs m text) (sections (m .first) text)
 
 -- out is the result buffer's length, room that of the shorter scratch buffer.
 unfoldable pub encodeNumber : Model → Bool → List ℕ → ℕ → ℕ → ℕ

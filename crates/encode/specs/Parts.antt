@@ -3,7 +3,7 @@ use Prim.Native.Nat.{ℕ}
 use mathlib.Core.Bool.{Bool, true, false, not, cond, _&&_}
 use mathlib.Core.List.{List, [], _∷_}
 use Rattle.utf8.specs.Lists.{isEmpty}
-use Rattle.model.specs.Model.{Model, tokens}
+use Rattle.model.specs.Model.{Model}
 use Rattle.model.specs.Mark.{startsWithMark}
 use Rattle.normalise.specs.Steps.{stepped}
 use Rattle.normalise.specs.Spaces.{metaspaced}
@@ -47,7 +47,7 @@ normalStretch m part = stretch (metaspaced (m .metaspace) (part .first) (part .b
 
 -- "Otherwise: steps, then second-list tokens".
 unfoldable pub normalPartsOf : Model → List ℕ → Section → List (Item NormalPart)
-normalPartsOf m text section = normalParts (tokens (m .second)) (section .opening) (stepped m (bytesOf text section))
+normalPartsOf m text section = normalParts (m .second) (section .opening) (stepped m (bytesOf text section))
 
 unfoldable pub stretchesOf : Model → RawPath → Bool → List ℕ → Section → List (Item Stretch)
 stretchesOf m (Present prepend) continuation text section = rawStretch prepend continuation text section
@@ -55,4 +55,4 @@ stretchesOf m Absent continuation text section = takenApart (normalStretch m) (n
 
 -- The tokens and stretches of a text, in their order.
 unfoldable pub parts : Model → Bool → List ℕ → List (Item Stretch)
-parts m continuation text = takenApart (stretchesOf m (rawPath m) continuation text) (sections (tokens (m .first)) text)
+parts m continuation text = takenApart (stretchesOf m (rawPath m) continuation text) (sections (m .first) text)

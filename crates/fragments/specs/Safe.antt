@@ -6,8 +6,8 @@ use lib.Dec.{eqb, ltb}
 use lib.ListN.{length, take, drop}
 use Rattle.utf8.specs.Lists.{any, below, startsWith, within, Range}
 use Rattle.utf8.specs.WhiteSpace.{trimEnd}
-use Rattle.model.specs.Model.{Model, Token, tokens}
-use Rattle.units.specs.Kinds.{wordSplit, rawPath}
+use Rattle.model.specs.Model.{Model, Token, contents, tokenAt, piecesOf}
+use Rattle.units.specs.Kinds.{crossings, kindOf, rawPath}
 use Rattle.units.specs.Units.{markCuts}
 use Rattle.units.specs.declared.RawPrepend.{RawPrepend}
 use Rattle.units.specs.declared.RawPrepend.the-variants as prepend
@@ -46,9 +46,9 @@ blockedBy unguarded text p t =
     && any (λ (s : ℕ). startsWith (t .content) (drop s text) && within (block unguarded text t s) p) (below (length text))
 
 unfoldable pub isBlocked : Model → List ℕ → ℕ → Bool
-isBlocked m text p = any (blockedBy (isUnguarded (rawPath m)) text p) (tokens (m .first))
+isBlocked m text p = any (λ (row : ℕ). blockedBy (isUnguarded (rawPath m)) text p (tokenAt (m .first) row)) (below (length (contents (m .first))))
 
 -- "The place is above 0, a mark or space starts there, doesn't extend a run (EveryMark: no such test), isn't spanned over the whole
 -- text, and lies in no block."
 unfoldable pub isSafe : Model → List ℕ → ℕ → Bool
-isSafe m text p = ltb 0 p && markCuts m (wordSplit m) true text p && not (isBlocked m text p)
+isSafe m text p = ltb 0 p && markCuts (kindOf m) (crossings (piecesOf m)) true text p && not (isBlocked m text p)

@@ -7,63 +7,65 @@ use lib.ListN.{length, getD}
 use Rattle.utf8.specs.Lists.{isEmpty, all, any, lastOr, neighbours, joinMap, numbered, same}
 use Rattle.utf8.specs.Chars.{valid}
 use Rattle.model.specs.declared.Span.{Span}
+use Rattle.model.specs.declared.Step.{Step}
 use Rattle.model.specs.declared.Answer.{Answer}
-use Rattle.model.specs.Model.{Model, TokenList, Row, pieces, pieceCount, piece, noId, rows, contents, stepsOf, stepString, spansOf}
+use Rattle.model.specs.Model.{Model, TokenList, Row, piece, noId, contents, stepString, spansOf, piecesOf, mergeRows, stepsOf}
 use Rattle.model.specs.Answers.{lowest, done, refused}
 
--- The three tables of strings that lie end to end, each as its bytes and its offsets.
-unfoldable pub stringTables : Model → List (List ℕ × List ℕ)
-stringTables m =
-    (m .pieceBytes, m .pieceOffsets) ∷ (m .first .bytes, m .first .offsets) ∷ (m .second .bytes, m .second .offsets) ∷ []
-
 -- The strings of all steps.
-unfoldable pub stepSpans : Model → List Span
-stepSpans m = joinMap spansOf (stepsOf m)
+unfoldable pub stepSpans : List Step → List Span
+stepSpans steps = joinMap spansOf steps
 
 -- 1: "a size above is exceeded, a table's columns differ in length, or the fallback ids aren't 256"
 
--- "255 bytes for a piece, a token's content or a step's string; an offset pair that falls has no length".
-unfoldable pub stringTooLong : Model → Bool
-stringTooLong m =
-    any (λ (t : List ℕ × List ℕ). any (λ (p : ℕ × ℕ). ltb 255 (p .1 - p .0)) (neighbours (t .1))) (stringTables m)
-    || any (λ (s : Span). ltb 255 (s .len)) (stepSpans m)
+-- "255 bytes for a piece, a token's content" by its offsets; "an offset pair that falls has no length".
+unfoldable pub stringTooLong : List ℕ → Bool
+stringTooLong offsets = any (λ (p : ℕ × ℕ). ltb 255 (p .1 - p .0)) (neighbours offsets)
 
--- "524,288 pieces, 8,388,608 piece bytes; 1,048,576 merge rows; 8,192 added tokens in each of the two lists; 16 steps".
-unfoldable pub sizeExceeded : Model → Bool
-sizeExceeded m =
-    ltb 524288 (pieceCount m)
-    || ltb 8388608 (length (m .pieceBytes))
-    || ltb 1048576 (length (m .left))
-    || ltb 8192 (length (contents (m .first)))
-    || ltb 8192 (length (contents (m .second)))
-    || ltb 16 (m .stepCount)
-    || stringTooLong m
+-- "255 bytes for .. a step's string".
+unfoldable pub spanTooLong : Span → Bool
+spanTooLong span = ltb 255 (span .len)
 
--- "An empty offset row answers 1."
-unfoldable pub offsetRowEmpty : Model → Bool
-offsetRowEmpty m = any (λ (t : List ℕ × List ℕ). isEmpty (t .1)) (stringTables m)
+-- "524,288 pieces, 8,388,608 piece bytes"; "an empty offset row answers 1".
+unfoldable pub wrongPieceSizes : List ℕ → List ℕ → Bool
+wrongPieceSizes bytes offsets =
+    isEmpty offsets || ltb 524288 (length offsets - 1) || ltb 8388608 (length bytes) || stringTooLong offsets
 
-unfoldable pub tokenColumnsDiffer : TokenList → Bool
-tokenColumnsDiffer t = not (all (eqb (length (contents t))) (length (t .ids) ∷ length (t .lstrip) ∷ length (t .rstrip) ∷ []))
+-- "1,048,576 merge rows", and columns that differ in length.
+unfoldable pub wrongRowSizes : List ℕ → List ℕ → List ℕ → List ℕ → Bool
+wrongRowSizes left right result rank =
+    ltb 1048576 (length left) || not (all (eqb (length left)) (length right ∷ length result ∷ length rank ∷ []))
 
-unfoldable pub columnsDiffer : Model → Bool
-columnsDiffer m =
-    not (all (eqb (length (m .left))) (length (m .right) ∷ length (m .result) ∷ length (m .rank) ∷ []))
-    || tokenColumnsDiffer (m .first)
-    || tokenColumnsDiffer (m .second)
+-- "8,192 added tokens in each of the two lists", an empty offset row, and columns that differ in length.
+unfoldable pub wrongTokenSizes : TokenList → Bool
+wrongTokenSizes t =
+    isEmpty (t .offsets)
+    || ltb 8192 (length (t .offsets) - 1)
+    || stringTooLong (t .offsets)
+    || not (all (eqb (length (t .offsets) - 1)) (length (t .ids) ∷ length (t .lstrip) ∷ length (t .rstrip) ∷ []))
+
+-- "16 steps"
+unfoldable pub wrongStepSizes : List Step → ℕ → Bool
+wrongStepSizes steps stepCount = ltb 16 stepCount || any spanTooLong (stepSpans steps)
 
 unfoldable pub wrongSizes : Model → Bool
-wrongSizes m = sizeExceeded m || offsetRowEmpty m || columnsDiffer m || not (eqb (length (m .fallback)) 256)
+wrongSizes m =
+    wrongPieceSizes (m .pieceBytes) (m .pieceOffsets)
+    || not (eqb (length (m .fallback)) 256)
+    || wrongRowSizes (m .left) (m .right) (m .result) (m .rank)
+    || wrongTokenSizes (m .first)
+    || wrongTokenSizes (m .second)
+    || wrongStepSizes (stepsOf m) (m .stepCount)
 
--- "Text 1,048,576 bytes or ids", which is part of 1 for the calls that have a text.
+-- "Text 1,048,576 bytes or ids", which is part of 1 for the calls that have a text or ids.
 unfoldable pub textTooLong : ℕ → Bool
 textTooLong size = ltb 1048576 size
 
 -- 2: "offsets of pieces, tokens or step strings don't run in order inside their bytes"
 
 -- Offsets "run from 0 to the total".
-unfoldable pub runsInOrder : List ℕ → List ℕ → Bool
-runsInOrder bytes offsets =
+unfoldable pub runInOrder : List ℕ → List ℕ → Bool
+runInOrder bytes offsets =
     eqb (getD offsets 0 0) 0
     && all (λ (p : ℕ × ℕ). leb (p .0) (p .1)) (neighbours offsets)
     && eqb (lastOr 0 offsets) (length bytes)
@@ -73,12 +75,14 @@ liesInside bytes span = leb (span .place + span .len) (length bytes)
 
 unfoldable pub offsetsAstray : Model → Bool
 offsetsAstray m =
-    not (all (λ (t : List ℕ × List ℕ). runsInOrder (t .0) (t .1)) (stringTables m))
-    || not (all (liesInside (m .stepBytes)) (stepSpans m))
+    not (runInOrder (m .pieceBytes) (m .pieceOffsets))
+    || not (runInOrder (m .first .bytes) (m .first .offsets))
+    || not (runInOrder (m .second .bytes) (m .second .offsets))
+    || not (all (liesInside (m .stepBytes)) (stepSpans (stepsOf m)))
 
 -- 3: "a piece is neither valid UTF-8 nor exactly one byte"
-unfoldable pub badPiece : Model → Bool
-badPiece m = not (all (λ (p : List ℕ). valid p || eqb (length p) 1) (pieces m))
+unfoldable pub badPiece : List (List ℕ) → Bool
+badPiece pieces = any (λ (bytes : List ℕ). not (valid bytes) && not (eqb (length bytes) 1)) pieces
 
 -- 4: "the lookup list breaks its rule"
 
@@ -90,29 +94,29 @@ before (x ∷ xs) [] = false
 before (x ∷ xs) (y ∷ ys) = ltb x y || eqb x y && before xs ys
 
 -- "And nothing else": an entry that is no id, or the id of an empty piece.
-unfoldable pub namesNoPiece : Model → ℕ → Bool
-namesNoPiece m id = leb (pieceCount m) id || isEmpty (piece m id)
+unfoldable pub namesNoPiece : List (List ℕ) → ℕ → Bool
+namesNoPiece pieces id = leb (length pieces) id || isEmpty (piece pieces id)
 
 -- "In strictly ascending byte order of their pieces", and so each "once".
-unfoldable pub lookupAscends : Model → Bool
-lookupAscends m = all (λ (p : ℕ × ℕ). before (piece m (p .0)) (piece m (p .1))) (neighbours (m .lookup))
+unfoldable pub lookupAscends : List (List ℕ) → List ℕ → Bool
+lookupAscends pieces lookup = all (λ (p : ℕ × ℕ). before (piece pieces (p .0)) (piece pieces (p .1))) (neighbours lookup)
 
-unfoldable pub isListed : Model → List ℕ → Bool
-isListed m bytes = any (λ (id : ℕ). same (piece m id) bytes) (m .lookup)
+unfoldable pub isListed : List (List ℕ) → List ℕ → List ℕ → Bool
+isListed pieces lookup bytes = any (λ (id : ℕ). same (piece pieces id) bytes) lookup
 
 -- "Every distinct non-empty piece".
-unfoldable pub pieceMissing : Model → Bool
-pieceMissing m = any (λ (p : List ℕ). not (isEmpty p) && not (isListed m p)) (pieces m)
+unfoldable pub pieceMissing : List (List ℕ) → List ℕ → Bool
+pieceMissing pieces lookup = any (λ (bytes : List ℕ). not (isEmpty bytes) && not (isListed pieces lookup bytes)) pieces
 
-unfoldable pub badLookup : Model → Bool
-badLookup m = any (namesNoPiece m) (m .lookup) || not (lookupAscends m) || pieceMissing m
+unfoldable pub badLookup : List (List ℕ) → List ℕ → Bool
+badLookup pieces lookup = any (namesNoPiece pieces) lookup || not (lookupAscends pieces lookup) || pieceMissing pieces lookup
 
 -- 5: "a fallback id other than none is not below the piece count, or its piece is not that one byte"
-unfoldable pub fallbackFits : Model → ℕ → ℕ → Bool
-fallbackFits m byte id = eqb id noId || ltb id (pieceCount m) && same (piece m id) (byte ∷ [])
+unfoldable pub fallbackFits : List (List ℕ) → ℕ → ℕ → Bool
+fallbackFits pieces byte id = eqb id noId || ltb id (length pieces) && same (piece pieces id) (byte ∷ [])
 
-unfoldable pub badFallback : Model → Bool
-badFallback m = not (all (λ (entry : ℕ × ℕ). fallbackFits m (entry .0) (entry .1)) (numbered (m .fallback)))
+unfoldable pub badFallback : List (List ℕ) → List ℕ → Bool
+badFallback pieces fallback = not (all (λ (entry : ℕ × ℕ). fallbackFits pieces (entry .0) (entry .1)) (numbered fallback))
 
 -- 6: "a merge row is out of order, names an id not below the piece count, or its result's piece isn't left joined to right"
 
@@ -120,37 +124,37 @@ badFallback m = not (all (λ (entry : ℕ × ℕ). fallbackFits m (entry .0) (en
 unfoldable pub rowBefore : Row → Row → Bool
 rowBefore r s = ltb (r .left) (s .left) || eqb (r .left) (s .left) && ltb (r .right) (s .right)
 
-unfoldable pub rowsAscend : Model → Bool
-rowsAscend m = all (λ (p : Row × Row). rowBefore (p .0) (p .1)) (neighbours (rows m))
+unfoldable pub rowsAscend : List Row → Bool
+rowsAscend rows = all (λ (p : Row × Row). rowBefore (p .0) (p .1)) (neighbours rows)
 
-unfoldable pub rowIdsBelow : Model → Row → Bool
-rowIdsBelow m r = all (λ (id : ℕ). ltb id (pieceCount m)) (r .left ∷ r .right ∷ r .result ∷ [])
+unfoldable pub rowIdsBelow : ℕ → Row → Bool
+rowIdsBelow pieceCount row = ltb (row .left) pieceCount && ltb (row .right) pieceCount && ltb (row .result) pieceCount
 
-unfoldable pub rowJoins : Model → Row → Bool
-rowJoins m r = same (piece m (r .result)) (piece m (r .left) ++ piece m (r .right))
+unfoldable pub rowJoins : List (List ℕ) → Row → Bool
+rowJoins pieces row = same (piece pieces (row .result)) (piece pieces (row .left) ++ piece pieces (row .right))
 
-unfoldable pub badRow : Model → Bool
-badRow m = not (rowsAscend m) || not (all (rowIdsBelow m) (rows m)) || not (all (rowJoins m) (rows m))
+unfoldable pub badRow : List (List ℕ) → List Row → Bool
+badRow pieces rows = not (rowsAscend rows) || not (all (rowIdsBelow (length pieces)) rows) || not (all (rowJoins pieces) rows)
 
 -- 7: "an added token's content is empty or not valid UTF-8"
-unfoldable pub badToken : Model → Bool
-badToken m = any (λ (c : List ℕ). isEmpty c || not (valid c)) (contents (m .first) ++ contents (m .second))
+unfoldable pub badToken : List (List ℕ) → Bool
+badToken contents = any (λ (bytes : List ℕ). isEmpty bytes || not (valid bytes)) contents
 
 -- 8: "a step's string is not valid UTF-8"
-unfoldable pub badStep : Model → Bool
-badStep m = not (all (λ (s : Span). valid (stepString (m .stepBytes) s)) (stepSpans m))
+unfoldable pub badStep : List ℕ → List Step → Bool
+badStep bytes steps = any (λ (span : Span). not (valid (stepString bytes span))) (stepSpans steps)
 
 -- "Every call tests 1 to 8 on the whole model"; size is that of the call's text or ids.
 unfoldable pub modelTests : Model → ℕ → List (ℕ × Bool)
 modelTests m size =
     (1, wrongSizes m || textTooLong size)
     ∷ (2, offsetsAstray m)
-    ∷ (3, badPiece m)
-    ∷ (4, badLookup m)
-    ∷ (5, badFallback m)
-    ∷ (6, badRow m)
-    ∷ (7, badToken m)
-    ∷ (8, badStep m)
+    ∷ (3, badPiece (piecesOf m))
+    ∷ (4, badLookup (piecesOf m) (m .lookup))
+    ∷ (5, badFallback (piecesOf m) (m .fallback))
+    ∷ (6, badRow (piecesOf m) (mergeRows m))
+    ∷ (7, badToken (contents (m .first)) || badToken (contents (m .second)))
+    ∷ (8, badStep (m .stepBytes) (stepsOf m))
     ∷ []
 
 unfoldable pub checkNumber : Model → ℕ

@@ -1,44 +1,43 @@
--- Where added tokens stand in a text. One search serves both token lists.
+-- Where added tokens stand in a text. One search serves both token lists; it is given the contents in the order of their rows.
 use Prim.Native.Nat.{ℕ, zero, suc, _+_}
 use mathlib.Core.Bool.{Bool, true, false, cond}
 use mathlib.Core.List.{List, [], _∷_}
 use mathlib.Core.Option.{Option, none, some}
 use lib.Dec.{leb}
-use lib.ListN.{length, drop}
-use Rattle.utf8.specs.Lists.{filter, startsWith}
-use Rattle.model.specs.Model.{Token}
+use lib.ListN.{length, getD, drop}
+use Rattle.utf8.specs.Lists.{filter, numbered, startsWith}
 
--- A token's occurrence, and the place where it starts.
+-- An occurrence of a token: the place where it starts, and the token's row.
 pub record Match : Type 0 where
   pub place : ℕ
-  pub token : Token
+  pub row : ℕ
 
-unfoldable pub end : Match → ℕ
-end match = match .place + length (match .token .content)
+unfoldable pub end : List (List ℕ) → Match → ℕ
+end contents match = match .place + length (getD contents (match .row) [])
 
--- The token with the longer content, of equals the first: "the earlier row first among equal contents".
-abbrev pub longer : Token → Option Token → Token
-longer t none = t
-longer t (some u) = cond (leb (length (u .content)) (length (t .content))) t u
+-- Of numbered contents the longer one, of equals the first: "the earlier row first among equal contents".
+abbrev pub longer : ℕ × List ℕ → Option (ℕ × List ℕ) → ℕ × List ℕ
+longer c none = c
+longer c (some d) = cond (leb (length (d .1)) (length (c .1))) c d
 
-abbrev pub longest : List Token → Option Token
+abbrev pub longest : List (ℕ × List ℕ) → Option (ℕ × List ℕ)
 longest [] = none
-longest (t ∷ ts) = some (longer t (longest ts))
+longest (c ∷ cs) = some (longer c (longest cs))
 
--- The longest token at the head of a text.
-unfoldable pub longestAt : List Token → List ℕ → Option Token
-longestAt tokens text = longest (filter (λ (t : Token). startsWith (t .content) text) tokens)
+-- The longest content at the head of a text, with its row.
+unfoldable pub longestAt : List (List ℕ) → List ℕ → Option (ℕ × List ℕ)
+longestAt contents text = longest (filter (λ (c : ℕ × List ℕ). startsWith (c .1) text) (numbered contents))
 
--- The token as a match at the place, or else the other.
-abbrev pub matchOr : ℕ → Option Token → Option Match → Option Match
+-- the match at the place, or else the other
+abbrev pub matchOr : ℕ → Option (ℕ × List ℕ) → Option Match → Option Match
 matchOr place none other = other
-matchOr place (some t) other = some (record { place = place; token = t })
+matchOr place (some c) other = some (record { place = place; row = c .0 })
 
 -- The leftmost match of the text, there the longest; place is that of the text's first byte.
-abbrev pub firstMatch : List Token → ℕ → List ℕ → Option Match
-firstMatch tokens place [] = none
-firstMatch tokens place (b ∷ bytes) =
-    let later = firstMatch tokens (suc place) bytes in matchOr place (longestAt tokens (b ∷ bytes)) later
+abbrev pub firstMatch : List (List ℕ) → ℕ → List ℕ → Option Match
+firstMatch contents place [] = none
+firstMatch contents place (b ∷ bytes) =
+    let later = firstMatch contents (suc place) bytes in matchOr place (longestAt contents (b ∷ bytes)) later
 
 -- the match and what the search finds after it, or nothing
 abbrev pub matchThen : (Match → List Match) → Option Match → List Match
@@ -46,11 +45,11 @@ matchThen goOn none = []
 matchThen goOn (some match) = match ∷ goOn match
 
 -- A match takes at least one byte, so as many turns as there are bytes are enough.
-abbrev pub matchesFor : ℕ → List Token → List ℕ → ℕ → List Match
-matchesFor zero tokens text start = []
-matchesFor (suc turns) tokens text start =
-    matchThen (λ (match : Match). matchesFor turns tokens text (end match)) (firstMatch tokens start (drop start text))
+abbrev pub matchesFor : ℕ → List (List ℕ) → List ℕ → ℕ → List Match
+matchesFor zero contents text start = []
+matchesFor (suc turns) contents text start =
+    matchThen (λ (match : Match). matchesFor turns contents text (end contents match)) (firstMatch contents start (drop start text))
 
 -- "First-list tokens are matched leftmost-longest without overlap."
-unfoldable pub matches : List Token → List ℕ → List Match
-matches tokens text = matchesFor (length text) tokens text 0
+unfoldable pub matches : List (List ℕ) → List ℕ → List Match
+matches contents text = matchesFor (length text) contents text 0

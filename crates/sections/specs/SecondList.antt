@@ -5,7 +5,7 @@ use mathlib.Core.List.{List, [], _∷_, _++_}
 use mathlib.Core.Option.{Option, none, some}
 use lib.ListN.{length, take, drop}
 use Rattle.utf8.specs.Lists.{isEmpty}
-use Rattle.model.specs.Model.{Token}
+use Rattle.model.specs.Model.{TokenList, contents, tokenAt}
 use Rattle.sections.specs.Matches.{Match, firstMatch}
 use Rattle.sections.specs.Sections.{Item, token, plain, stopBefore, startAfter}
 
@@ -18,17 +18,17 @@ unfoldable pub normalPartOf : List ℕ → Bool → List (Item NormalPart)
 normalPartOf bytes first = cond (isEmpty bytes) [] (plain (record { bytes = bytes; first = first }) ∷ [])
 
 -- the part before the match, its token, and the parts of what the token and its rstrip leave; without a match the text is a part
-abbrev pub normalPartsAround : (List ℕ → List (Item NormalPart)) → Bool → List ℕ → Option Match → List (Item NormalPart)
-normalPartsAround goOn first text none = normalPartOf text first
-normalPartsAround goOn first text (some match) =
-    normalPartOf (take (stopBefore text 0 match) text) first ++ token (match .token .id) ∷ goOn (drop (startAfter text match) text)
+abbrev pub normalPartsAround : TokenList → (List ℕ → List (Item NormalPart)) → Bool → List ℕ → Option Match → List (Item NormalPart)
+normalPartsAround t goOn first text none = normalPartOf text first
+normalPartsAround t goOn first text (some match) =
+    normalPartOf (take (stopBefore t text 0 match) text) first ++ token (tokenAt t (match .row) .id) ∷ goOn (drop (startAfter t text match) text)
 
 -- A token takes at least one byte, so as many turns as there are bytes are enough.
-abbrev pub normalPartsFor : ℕ → List Token → Bool → List ℕ → List (Item NormalPart)
-normalPartsFor zero tokens first text = []
-normalPartsFor (suc turns) tokens first text = normalPartsAround (normalPartsFor turns tokens false) first text (firstMatch tokens 0 text)
+abbrev pub normalPartsFor : ℕ → TokenList → Bool → List ℕ → List (Item NormalPart)
+normalPartsFor zero t first text = []
+normalPartsFor (suc turns) t first text = normalPartsAround t (normalPartsFor turns t false) first text (firstMatch (contents t) 0 text)
 
 -- "Second-list tokens (earliest, then longest, then earlier row, searched afresh in what each token and its rstrip leave) with the
 -- same strips"; "first flag true in the first section until a token was found".
-unfoldable pub normalParts : List Token → Bool → List ℕ → List (Item NormalPart)
-normalParts tokens first text = normalPartsFor (length text) tokens first text
+unfoldable pub normalParts : TokenList → Bool → List ℕ → List (Item NormalPart)
+normalParts t first text = normalPartsFor (length text) t first text

@@ -7,7 +7,7 @@ use lib.ListN.{length, drop}
 use lib.Seq.{slice}
 use Rattle.utf8.specs.Lists.{isEmpty}
 use Rattle.utf8.specs.WhiteSpace.{trimStart, trimEnd}
-use Rattle.model.specs.Model.{Token}
+use Rattle.model.specs.Model.{TokenList, contents, tokenAt}
 use Rattle.sections.specs.Matches.{Match, end, matches}
 
 -- What a text comes to: tokens by their ids, and what stands between them.
@@ -22,17 +22,18 @@ takenApart f (token id ∷ items) = token id ∷ takenApart f items
 takenApart f (plain a ∷ items) = f a ++ takenApart f items
 
 -- "lstrip trims White_Space off the section before": where the section that begins at start ends before the match.
-unfoldable pub stopBefore : List ℕ → ℕ → Match → ℕ
-stopBefore text start match =
-    cond (match .token .lstrip) (start + length (trimEnd (slice start (match .place) text))) (match .place)
+unfoldable pub stopBefore : TokenList → List ℕ → ℕ → Match → ℕ
+stopBefore t text start match =
+    cond (tokenAt t (match .row) .lstrip) (start + length (trimEnd (slice start (match .place) text))) (match .place)
 
 -- The length of the White_Space at the left end.
 unfoldable pub whiteLength : List ℕ → ℕ
 whiteLength text = length text - length (trimStart text)
 
 -- "rstrip skips it after": where the section after the match begins.
-unfoldable pub startAfter : List ℕ → Match → ℕ
-startAfter text match = cond (match .token .rstrip) (end match + whiteLength (drop (end match) text)) (end match)
+unfoldable pub startAfter : TokenList → List ℕ → Match → ℕ
+startAfter t text match =
+    let e = end (contents t) match in cond (tokenAt t (match .row) .rstrip) (e + whiteLength (drop e text)) e
 
 -- A section of the text, as its place in it. It is the opening one if no token was taken before it.
 pub record Section : Type 0 where
@@ -52,16 +53,17 @@ unfoldable pub isSwallowed : ℕ → Match → Bool
 isSwallowed start match = ltb (match .place) start
 
 -- The sections from start on, and the tokens of the matches between them.
-abbrev pub sectionsFrom : List ℕ → ℕ → Bool → List Match → List (Item Section)
-sectionsFrom text start opening [] = sectionOf start (length text) opening
-sectionsFrom text start opening (match ∷ later) =
-    let skipped = sectionsFrom text start opening later in
+abbrev pub sectionsFrom : TokenList → List ℕ → ℕ → Bool → List Match → List (Item Section)
+sectionsFrom t text start opening [] = sectionOf start (length text) opening
+sectionsFrom t text start opening (match ∷ later) =
+    let skipped = sectionsFrom t text start opening later in
     let taken =
-    sectionOf start (stopBefore text start match) opening
-    ++ token (match .token .id) ∷ sectionsFrom text (startAfter text match) false later in
+    sectionOf start (stopBefore t text start match) opening
+    ++ token (tokenAt t (match .row) .id) ∷ sectionsFrom t text (startAfter t text match) false later in
     cond (isSwallowed start match) skipped taken
 
 -- "An empty text with an empty first list still runs its steps": without tokens the whole text is the one section, empty or not.
-unfoldable pub sections : List Token → List ℕ → List (Item Section)
-sections tokens text =
-    cond (isEmpty tokens) (plain (record { start = 0; stop = length text; opening = true }) ∷ []) (sectionsFrom text 0 true (matches tokens text))
+unfoldable pub sections : TokenList → List ℕ → List (Item Section)
+sections t text =
+    cond (isEmpty (contents t)) (plain (record { start = 0; stop = length text; opening = true }) ∷ [])
+    (sectionsFrom t text 0 true (matches (contents t) text))

@@ -87,16 +87,16 @@ sameLent a b = same (a .out) (b .out) && same (a .scratchA) (b .scratchA) && sam
 unfoldable pub agrees : Case → Bool
 unfolding Chars.charForms Chars.charWidth Chars.chars Chars.isChar Chars.valid Chars.longestValidPrefix Chars.codePoint
     WhiteSpace.whiteSpace WhiteSpace.isWhite WhiteSpace.trimStart WhiteSpace.trimEnd
-    Model.strings Model.pieces Model.pieceCount Model.piece Model.lookupId Model.fallbackId Model.rowAt Model.rows Model.isRowOf Model.rowOf Model.contents Model.tokenAt Model.tokens Model.stepsOf Model.stepString Model.spansOf
+    Model.strings Model.piece Model.lookupId Model.fallbackId Model.rowsOf Model.rowOf Model.contents Model.tokenAt Model.stepString Model.spansOf Model.piecesOf Model.mergeRows Model.stepsOf
     Mark.mark Mark.space Mark.markWidth Mark.startsWithMark Mark.endsWithMark
     Answers.done Answers.refused Answers.placeOf Answers.filled Answers.scratchAfter Answers.outcome Answers.withScratch
-    Check.stringTables Check.stepSpans Check.stringTooLong Check.sizeExceeded Check.offsetRowEmpty Check.tokenColumnsDiffer Check.columnsDiffer Check.wrongSizes Check.textTooLong Check.runsInOrder Check.liesInside Check.offsetsAstray Check.badPiece Check.namesNoPiece Check.lookupAscends Check.isListed Check.pieceMissing Check.badLookup Check.fallbackFits Check.badFallback Check.rowBefore Check.rowsAscend Check.rowIdsBelow Check.rowJoins Check.badRow Check.badToken Check.badStep Check.modelTests Check.checkNumber Check.checkOutcome
+    Check.stepSpans Check.stringTooLong Check.spanTooLong Check.wrongPieceSizes Check.wrongRowSizes Check.wrongTokenSizes Check.wrongStepSizes Check.wrongSizes Check.textTooLong Check.runInOrder Check.liesInside Check.offsetsAstray Check.badPiece Check.namesNoPiece Check.lookupAscends Check.isListed Check.pieceMissing Check.badLookup Check.fallbackFits Check.badFallback Check.rowBefore Check.rowsAscend Check.rowIdsBelow Check.rowJoins Check.badRow Check.badToken Check.badStep Check.modelTests Check.checkNumber Check.checkOutcome
     Steps.prepended Steps.occurrences Steps.replaced Steps.spaceRun Steps.collapsed Steps.stripped Steps.applied Steps.stepOutputs Steps.stepped
     Spaces.spacesMarked Spaces.schemePrepends Spaces.markPrepended Spaces.metaspaceOutput Spaces.metaspaced
     Normalise.normalised Normalise.outgrows Normalise.normaliseOutputs Normalise.normaliseNumber Normalise.normaliseOutcome
-    Kinds.crossesAt Kinds.crossingAt Kinds.crossingsOf Kinds.crossings Kinds.holdsMark Kinds.isTangled Kinds.splits Kinds.wordSplit Kinds.isPrependMark Kinds.isSpaceReplace Kinds.isPresent Kinds.prependOf Kinds.rawPathOf Kinds.isNone Kinds.rawPath Kinds.hasRawPath
-    Units.spanned Units.markCuts Units.punctuation Units.holdsPair Units.byteBefore Units.punctuationCuts Units.cutsAs Units.cut Units.units
-    Start.fallbackIds Start.startingIds Start.isDropped Start.asMark Start.unitChars Start.withVirtualMark
+    Kinds.crossesAt Kinds.crossingAt Kinds.crossingsOf Kinds.crossings Kinds.holdsMark Kinds.isTangled Kinds.splits Kinds.wordSplit Kinds.kindOf Kinds.isPrependMark Kinds.isSpaceReplace Kinds.isPresent Kinds.prependOf Kinds.rawPathOf Kinds.isNone Kinds.rawPath Kinds.hasRawPath
+    Units.spanned Units.markCuts Units.punctuation Units.holdsPair Units.byteBefore Units.punctuationCuts Units.cut Units.units
+    Start.vocabularyOf Start.ownId Start.fallbackIds Start.startingIds Start.isDropped Start.asMark Start.unitChars Start.withVirtualMark
     Merge.candidates Merge.nextMerge Merge.mergedAt Merge.merged
     Matches.end Matches.longestAt Matches.matches
     Sections.stopBefore Sections.whiteLength Sections.startAfter Sections.bytesOf Sections.sectionOf Sections.isSwallowed Sections.sections

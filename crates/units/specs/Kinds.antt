@@ -6,7 +6,7 @@ use lib.Dec.{ltb}
 use lib.ListN.{length, take, drop}
 use Rattle.utf8.specs.Lists.{isEmpty, any, filter, joinMap, same, below}
 use Rattle.utf8.specs.Chars.{valid}
-use Rattle.model.specs.Model.{Model, pieces, contents, stepsOf, stepString}
+use Rattle.model.specs.Model.{Model, piecesOf, contents, stepsOf, stepString}
 use Rattle.model.specs.Mark.{mark, space, startsWithMark, endsWithMark}
 use Rattle.model.specs.declared.Step.{Step}
 use Rattle.model.specs.declared.Step.the-variants.{Prepend, Replace, CollapseSpaces, Strip}
@@ -37,8 +37,8 @@ unfoldable pub crossingsOf : List ℕ → List Crossing
 crossingsOf bytes = map (crossingAt bytes) (filter (crossesAt bytes) (below (length bytes)))
 
 -- "Look at each UTF-8 piece."
-unfoldable pub crossings : Model → List Crossing
-crossings m = joinMap crossingsOf (filter valid (pieces m))
+unfoldable pub crossings : List (List ℕ) → List Crossing
+crossings pieces = joinMap crossingsOf (filter valid pieces)
 
 -- The bytes hold a mark or a space.
 unfoldable pub holdsMark : List ℕ → Bool
@@ -54,10 +54,12 @@ splits (Present prepend split) = split
 
 -- "Metaspace with split: EveryMark." "If pre or post holds a mark or a space, or 32 are already noted (equal pieces count again),
 -- the kind is None. Else SpaceRuns."
-unfoldable pub wordSplit : Model → WordSplit
-wordSplit m =
-    cond (splits (m .metaspace)) kind.EveryMark
-    (cond (any isTangled (crossings m) || ltb 32 (length (crossings m))) kind.None kind.SpaceRuns)
+unfoldable pub wordSplit : List Crossing → Metaspace → WordSplit
+wordSplit noted metaspace =
+    cond (splits metaspace) kind.EveryMark (cond (any isTangled noted || ltb 32 (length noted)) kind.None kind.SpaceRuns)
+
+unfoldable pub kindOf : Model → WordSplit
+kindOf m = wordSplit (crossings (piecesOf m)) (m .metaspace)
 
 -- "Prepend mark".
 unfoldable pub isPrependMark : List ℕ → Step → Bool
@@ -100,7 +102,7 @@ isNone kind.EveryMark = false
 -- "Raw path: none for kind None or where the second token list is non-empty."
 unfoldable pub rawPath : Model → RawPath
 rawPath m =
-    cond (isNone (wordSplit m) || not (isEmpty (contents (m .second)))) raw.Absent (rawPathOf (m .stepBytes) (stepsOf m) (m .metaspace))
+    cond (isNone (kindOf m) || not (isEmpty (contents (m .second)))) raw.Absent (rawPathOf (m .stepBytes) (stepsOf m) (m .metaspace))
 
 unfoldable pub hasRawPath : RawPath → Bool
 hasRawPath raw.Absent = false

@@ -5,9 +5,9 @@ use mathlib.Core.List.{List, [], _∷_, _++_}
 use lib.Dec.{eqb, ltb}
 use lib.ListN.{length, getD, take, drop}
 use Rattle.utf8.specs.Lists.{any, filter, neighbours, between, below, startsWith, endsWith}
-use Rattle.model.specs.Model.{Model, pieces}
+use Rattle.model.specs.Model.{Model, piecesOf}
 use Rattle.model.specs.Mark.{markWidth, startsWithMark, endsWithMark}
-use Rattle.units.specs.Kinds.{Crossing, crossings, wordSplit}
+use Rattle.units.specs.Kinds.{Crossing, crossings, isNone, kindOf}
 use Rattle.units.specs.declared.WordSplit.{WordSplit}
 use Rattle.units.specs.declared.WordSplit.the-variants.{SpaceRuns, EveryMark, None}
 
@@ -17,37 +17,34 @@ spanned noted raw section p =
     any (λ (c : Crossing). endsWith (c .pre) (take p section) && startsWith (c .post) (drop (p + markWidth raw (drop p section)) section)) noted
 
 -- A mark stands at p, and "for SpaceRuns, doesn't follow a mark directly and is not spanned. EveryMark has no spans."
-unfoldable pub markCuts : Model → WordSplit → Bool → List ℕ → ℕ → Bool
-markCuts m SpaceRuns raw section p =
-    startsWithMark raw (drop p section) && not (endsWithMark raw (take p section)) && not (spanned (crossings m) raw section p)
-markCuts m EveryMark raw section p = startsWithMark raw (drop p section)
-markCuts m None raw section p = false
+unfoldable pub markCuts : WordSplit → List Crossing → Bool → List ℕ → ℕ → Bool
+markCuts SpaceRuns noted raw section p =
+    startsWithMark raw (drop p section) && not (endsWithMark raw (take p section)) && not (spanned noted raw section p)
+markCuts EveryMark noted raw section p = startsWithMark raw (drop p section)
+markCuts None noted raw section p = false
 
 -- . , " ) ; : ! ?
 unfoldable pub punctuation : List ℕ
 punctuation = 0x2E ∷ 0x2C ∷ 0x22 ∷ 0x29 ∷ 0x3B ∷ 0x3A ∷ 0x21 ∷ 0x3F ∷ []
 
 -- Some piece holds the byte x directly followed by y.
-unfoldable pub holdsPair : Model → ℕ → ℕ → Bool
-holdsPair m x y = any (λ (bytes : List ℕ). any (λ (p : ℕ × ℕ). eqb (p .0) x && eqb (p .1) y) (neighbours bytes)) (pieces m)
+unfoldable pub holdsPair : List (List ℕ) → ℕ → ℕ → Bool
+holdsPair pieces x y = any (λ (bytes : List ℕ). any (λ (p : ℕ × ℕ). eqb (p .0) x && eqb (p .1) y) (neighbours bytes)) pieces
 
 -- "A raw space before it counts as 0x81."
 unfoldable pub byteBefore : Bool → List ℕ → ℕ → ℕ
 byteBefore raw section p = let b = getD section (p - 1) 0 in cond (raw && eqb b 0x20) 0x81 b
 
 -- "A unit also starts at one of . , " ) ; : ! ? when no piece holds the byte before it directly followed by it."
-unfoldable pub punctuationCuts : Model → Bool → List ℕ → ℕ → Bool
-punctuationCuts m raw section p =
-    any (eqb (getD section p 0)) punctuation && not (holdsPair m (byteBefore raw section p) (getD section p 0))
+unfoldable pub punctuationCuts : WordSplit → List (List ℕ) → Bool → List ℕ → ℕ → Bool
+punctuationCuts kind pieces raw section p =
+    not (isNone kind) && any (eqb (getD section p 0)) punctuation && not (holdsPair pieces (byteBefore raw section p) (getD section p 0))
 
-unfoldable pub cutsAs : Model → WordSplit → Bool → List ℕ → ℕ → Bool
-cutsAs m SpaceRuns raw section p = markCuts m SpaceRuns raw section p || punctuationCuts m raw section p
-cutsAs m EveryMark raw section p = markCuts m EveryMark raw section p || punctuationCuts m raw section p
-cutsAs m None raw section p = false
-
--- A unit starts at p, behind the section's first byte. "Kind None: one unit."
+-- A unit starts at p, which lies behind the section's first byte. "Kind None: one unit."
 unfoldable pub cut : Model → Bool → List ℕ → ℕ → Bool
-cut m raw section p = ltb 0 p && cutsAs m (wordSplit m) raw section p
+cut m raw section p =
+    ltb 0 p
+    && (markCuts (kindOf m) (crossings (piecesOf m)) raw section p || punctuationCuts (kindOf m) (piecesOf m) raw section p)
 
 -- The section cut at all such places.
 unfoldable pub units : Model → Bool → List ℕ → List (List ℕ)
