@@ -9,8 +9,9 @@ answer = [number, place, written, drops, skips], out and scratch_after. Before a
 scratch byte is 5.
 
 Each case becomes one equation that the prover computes, in a repository of its own outside this one. A case that differs
-is named by its line and its call (both counted from 1), with what the definitions give in the place of what FILE says. The
-exit status is 0 only if no case differs; the last line is 'N passed, M failed'.
+is named by its line and its call (both counted from 1), with what the definitions give in the place of what FILE says; one
+that is too large to compute is named with the prover's reason, and counts as failed. The exit status is 0 only if no case
+failed; the last line is 'N passed, M failed'.
 """
 import argparse
 import json
@@ -237,19 +238,19 @@ class Repository:
 
 
 def judge(repository, groups):
-    """The names of the equations that fail. What is left of a group without them must be proved, else all of it fails."""
-    failed = {}
-    verdicts = repository.prove(groups)
-    again = []
-    for (models, equations), (refused, other) in zip(groups, verdicts):
+    """The names of the equations that fail. An equation that was refused is put again as its opposite: where that is proved, the two
+    sides differ and the reason is empty; where it is not, the equation could not be computed, and the reason says why."""
+    failed, again = {}, []
+    for (models, equations), (refused, other) in zip(groups, repository.prove(groups)):
         if other is not None:
-            failed.update({e: "not computed: " + other.splitlines()[-1] for e in equations})
+            failed.update({e: other.splitlines()[-1] for e in equations})
         elif refused:
-            failed.update(refused)
-            again.append((models, {e: t for e, t in equations.items() if e not in refused}))
+            failed.update({e: "" for e in refused})
+            again.append((models, {e: t.replace("≡ true", "≡ false") if e in refused else t for e, t in equations.items()}))
     for (models, equations), (refused, other) in zip(again, repository.prove(again) if again else []):
-        if refused or other is not None:
-            failed.update({e: refused.get(e, "not computed") for e in equations})
+        if other is not None:
+            failed.update({e: other.splitlines()[-1] for e in equations})
+        failed.update(refused)
     return failed
 
 
@@ -298,10 +299,13 @@ def main():
     for line, text in enumerate(open(a.file), 1):
         if not text.strip():
             continue
-        entry = json.loads(text)
-        model = f"model-{line}"
-        models[model] = model_text(entry["model"])
-        cases += [One(line, number, model, call) for number, call in enumerate(entry["calls"], 1)]
+        try:
+            entry = json.loads(text)
+            model = f"model-{line}"
+            models[model] = model_text(entry["model"])
+            cases += [One(line, number, model, call) for number, call in enumerate(entry["calls"], 1)]
+        except (KeyError, TypeError, ValueError) as fault:
+            p.exit(2, f"{a.file}: line {line} is not of the form that cases have: {type(fault).__name__} {fault}\n")
     groups = []
     for at in range(0, len(cases), CASES_A_CRATE):
         some = cases[at:at + CASES_A_CRATE]
@@ -310,12 +314,13 @@ def main():
         repository = Repository(pathlib.Path(folder) / "repository", a.jobs)
         failed = judge(repository, groups)
         for shown, case in enumerate(c for c in cases if c.name in failed):
-            print(f"line {case.line}, call {case.number} ({case.op}) differs")
-            if shown < a.explain and not failed[case.name].startswith("not computed"):
-                for sentence in explain(repository, case, {case.model: models[case.model]}):
-                    print(f"  {sentence}")
+            if not failed[case.name]:
+                print(f"line {case.line}, call {case.number} ({case.op}) differs")
+                if shown < a.explain:
+                    for sentence in explain(repository, case, {case.model: models[case.model]}):
+                        print(f"  {sentence}")
             else:
-                print(f"  {failed[case.name][:300]}")
+                print(f"line {case.line}, call {case.number} ({case.op}) was not computed: {failed[case.name][:300]}")
     print(f"{len(cases) - len(failed)} passed, {len(failed)} failed")
     raise SystemExit(bool(failed) or not cases)
 
