@@ -4,12 +4,13 @@ use mathlib.Core.Bool.{Bool, true, false, not, cond, _&&_, _||_}
 use mathlib.Core.List.{List, [], _∷_, _++_, map}
 use lib.Dec.{eqb, leb, ltb}
 use lib.ListN.{length, getD}
-use Rattle.utf8.specs.Lists.{isEmpty, all, any, lastOr, neighbours, joinMap, numbered, same}
+use Rattle.utf8.specs.Lists.{isEmpty, all, any, lastOr, neighbours, joinMap, numbered, zip, same}
 use Rattle.utf8.specs.Chars.{valid}
 use Rattle.model.specs.declared.Span.{Span}
 use Rattle.model.specs.declared.Step.{Step}
 use Rattle.model.specs.declared.Answer.{Answer}
-use Rattle.model.specs.Model.{Model, TokenList, Row, piece, noId, contents, stepString, spansOf, piecesOf, mergeRows, stepsOf}
+use Rattle.model.specs.Model.{Model, TokenList, piece, noId, contents, stepString, spansOf, piecesOf, stepsOf}
+use Rattle.model.specs.Search.{isBefore}
 use Rattle.model.specs.Answers.{lowest, done, refused}
 
 -- The strings of all steps.
@@ -86,20 +87,13 @@ badPiece pieces = any (λ (bytes : List ℕ). not (valid bytes) && not (eqb (len
 
 -- 4: "the lookup list breaks its rule"
 
--- Byte order: a string stands before its extensions.
-abbrev pub before : List ℕ → List ℕ → Bool
-before [] [] = false
-before [] (y ∷ ys) = true
-before (x ∷ xs) [] = false
-before (x ∷ xs) (y ∷ ys) = ltb x y || eqb x y && before xs ys
-
 -- "And nothing else": an entry that is no id, or the id of an empty piece.
 unfoldable pub namesNoPiece : List (List ℕ) → ℕ → Bool
 namesNoPiece pieces id = leb (length pieces) id || isEmpty (piece pieces id)
 
 -- "In strictly ascending byte order of their pieces", and so each "once".
 unfoldable pub lookupAscends : List (List ℕ) → List ℕ → Bool
-lookupAscends pieces lookup = all (λ (p : ℕ × ℕ). before (piece pieces (p .0)) (piece pieces (p .1))) (neighbours lookup)
+lookupAscends pieces lookup = all (λ (p : ℕ × ℕ). isBefore (piece pieces (p .0)) (piece pieces (p .1))) (neighbours lookup)
 
 unfoldable pub isListed : List (List ℕ) → List ℕ → List ℕ → Bool
 isListed pieces lookup bytes = any (λ (id : ℕ). same (piece pieces id) bytes) lookup
@@ -121,20 +115,26 @@ badFallback pieces fallback = not (all (λ (entry : ℕ × ℕ). fallbackFits pi
 -- 6: "a merge row is out of order, names an id not below the piece count, or its result's piece isn't left joined to right"
 
 -- "Strictly ascending by (left, right)".
-unfoldable pub rowBefore : Row → Row → Bool
-rowBefore r s = ltb (r .left) (s .left) || eqb (r .left) (s .left) && ltb (r .right) (s .right)
+unfoldable pub pairBefore : ℕ × ℕ → ℕ × ℕ → Bool
+pairBefore p q = ltb (p .0) (q .0) || eqb (p .0) (q .0) && ltb (p .1) (q .1)
 
-unfoldable pub rowsAscend : List Row → Bool
-rowsAscend rows = all (λ (p : Row × Row). rowBefore (p .0) (p .1)) (neighbours rows)
+unfoldable pub rowsAscend : List ℕ → List ℕ → Bool
+rowsAscend left right = all (λ (n : (ℕ × ℕ) × (ℕ × ℕ)). pairBefore (n .0) (n .1)) (neighbours (zip left right))
 
-unfoldable pub rowIdsBelow : ℕ → Row → Bool
-rowIdsBelow pieceCount row = ltb (row .left) pieceCount && ltb (row .right) pieceCount && ltb (row .result) pieceCount
+-- The ids of a column are below the piece count.
+unfoldable pub allBelow : ℕ → List ℕ → Bool
+allBelow pieceCount ids = all (λ (id : ℕ). ltb id pieceCount) ids
 
-unfoldable pub rowJoins : List (List ℕ) → Row → Bool
-rowJoins pieces row = same (piece pieces (row .result)) (piece pieces (row .left) ++ piece pieces (row .right))
+-- Each result's piece is left joined to right.
+unfoldable pub rowsJoin : List (List ℕ) → List ℕ → List ℕ → List ℕ → Bool
+rowsJoin pieces left right result =
+    all (λ (row : (ℕ × ℕ) × ℕ). same (piece pieces (row .1)) (piece pieces (row .0 .0) ++ piece pieces (row .0 .1))) (zip (zip left right) result)
 
-unfoldable pub badRow : List (List ℕ) → List Row → Bool
-badRow pieces rows = not (rowsAscend rows) || not (all (rowIdsBelow (length pieces)) rows) || not (all (rowJoins pieces) rows)
+unfoldable pub badRow : List (List ℕ) → List ℕ → List ℕ → List ℕ → Bool
+badRow pieces left right result =
+    not (rowsAscend left right)
+    || not (allBelow (length pieces) left && allBelow (length pieces) right && allBelow (length pieces) result)
+    || not (rowsJoin pieces left right result)
 
 -- 7: "an added token's content is empty or not valid UTF-8"
 unfoldable pub badToken : List (List ℕ) → Bool
@@ -152,7 +152,7 @@ modelTests m size =
     ∷ (3, badPiece (piecesOf m))
     ∷ (4, badLookup (piecesOf m) (m .lookup))
     ∷ (5, badFallback (piecesOf m) (m .fallback))
-    ∷ (6, badRow (piecesOf m) (mergeRows m))
+    ∷ (6, badRow (piecesOf m) (m .left) (m .right) (m .result))
     ∷ (7, badToken (contents (m .first)) || badToken (contents (m .second)))
     ∷ (8, badStep (m .stepBytes) (stepsOf m))
     ∷ []

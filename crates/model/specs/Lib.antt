@@ -1,4 +1,5 @@
 pub mod Model
 pub mod Mark
 pub mod Answers
+pub mod Search
 pub mod Check

@@ -39,3 +39,17 @@ pub struct Answer {
     pub drops: usize,
     pub skips: usize,
 }
+
+// How one entry stands to another.
+pub enum Order {
+    Less,
+    Equal,
+    Greater,
+}
+
+// What a search in a table gives.
+pub enum Found {
+    // The place of the entry.
+    At(usize),
+    Nothing,
+}

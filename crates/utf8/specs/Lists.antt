@@ -81,6 +81,12 @@ module _ {ℓ} {A : Type ℓ} where
   cutBy width xs = cutFor (length xs) width xs
 
 module _ {ℓ κ} {A : Type ℓ} {B : Type κ} where
+  -- The elements of two lists side by side, as far as both go.
+  abbrev pub zip : List A → List B → List (A × B)
+  zip [] ys = []
+  zip (x ∷ xs) [] = []
+  zip (x ∷ xs) (y ∷ ys) = (x, y) ∷ zip xs ys
+
   abbrev pub joinMap : (A → List B) → List A → List B
   joinMap f xs = join (map f xs)
 

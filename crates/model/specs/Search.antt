@@ -1,0 +1,50 @@
+-- Byte order, and the search by halves that a sorted table allows.
+use Prim.Native.Nat.{ℕ, zero, suc, _+_, _-_, _/_}
+use mathlib.Core.Bool.{Bool, true, false, cond}
+use mathlib.Core.List.{List, [], _∷_}
+use lib.Dec.{ltb}
+use Rattle.model.specs.declared.Order.{Order}
+use Rattle.model.specs.declared.Order.the-variants.{Less, Equal, Greater}
+use Rattle.model.specs.declared.Found.{Found}
+use Rattle.model.specs.declared.Found.the-variants.{At, Nothing}
+
+-- The order of two numbers, where they differ, and else what is given.
+abbrev pub orderOr : ℕ → ℕ → Order → Order
+orderOr x y otherwise = cond (ltb x y) Less (cond (ltb y x) Greater otherwise)
+
+-- Byte order: a string stands before its extensions.
+abbrev pub byteOrder : List ℕ → List ℕ → Order
+byteOrder [] [] = Equal
+byteOrder [] (y ∷ ys) = Less
+byteOrder (x ∷ xs) [] = Greater
+byteOrder (x ∷ xs) (y ∷ ys) = orderOr x y (byteOrder xs ys)
+
+abbrev pub isLess : Order → Bool
+isLess Less = true
+isLess Equal = false
+isLess Greater = false
+
+unfoldable pub isBefore : List ℕ → List ℕ → Bool
+isBefore xs ys = isLess (byteOrder xs ys)
+
+-- The order of two pairs: that of their left sides, and where these are equal that of their right sides.
+unfoldable pub pairOrder : ℕ × ℕ → ℕ × ℕ → Order
+pairOrder p q = orderOr (p .0) (q .0) (orderOr (p .1) (q .1) Equal)
+
+-- where a search goes on from the middle entry, by its order to what is sought
+abbrev pub searchOn : ℕ → Order → (ℕ → ℕ → Found) → ℕ → ℕ → Found
+searchOn middle Less goOn lo hi = goOn (middle + 1) hi
+searchOn middle Equal goOn lo hi = At middle
+searchOn middle Greater goOn lo hi = goOn lo middle
+
+-- Each turn leaves less between lo and hi, so as many turns as there are places are enough.
+abbrev pub searchFor : ℕ → (ℕ → Order) → ℕ → ℕ → Found
+searchFor zero order lo hi = Nothing
+searchFor (suc turns) order lo hi =
+    let middle = (lo + hi) / 2 in
+    let found = searchOn middle (order middle) (searchFor turns order) lo hi in
+    cond (ltb lo hi) found Nothing
+
+-- The place from lo up to hi at which a search by halves ends; order says how the entry at a place stands to what is sought.
+unfoldable pub searched : (ℕ → Order) → ℕ → ℕ → Found
+searched order lo hi = searchFor (hi - lo) order lo hi
