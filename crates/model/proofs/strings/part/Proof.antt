@@ -1,0 +1,67 @@
+-- `model::strings::part` meets its contract: by the laws of a part from a place to a place.
+use mathlib.Core.Path.{sym}
+use borrow.Author.Needs.{needs}
+use Rattle.utf8.proofs.Places.{slice-none, slice-of, slice-rest, slice-past}
+use Rattle.model.proofs.strings.part.Statement.{statement}
+use Rattle.model.proofs.strings.part.Tie as tie
+
+slice-aggregate-result : tie.Need-slice-aggregate-result
+slice-aggregate-result c = search needs
+
+returns : tie.Need-returns
+returns c =
+    let st = c .before .before .args in
+    sym (slice-none (st .start) (st .stop) (st .bytes .now) (search needs))
+
+sub-result : tie.Need-sub-result
+sub-result c = search needs
+
+part-result-start : tie.Need-part-result-start
+part-result-start c = search needs
+
+part-result-end : tie.Need-part-result-end
+part-result-end c = search needs
+
+returns-2 : tie.Need-returns-2
+returns-2 c =
+    let st = c .before .before .before .args in
+    slice-of (st .start) (st .stop) (st .bytes .now)
+
+sub-result-2 : tie.Need-sub-result-2
+sub-result-2 c = search needs
+
+part-result-start-2 : tie.Need-part-result-start-2
+part-result-start-2 c = search needs
+
+part-result-end-2 : tie.Need-part-result-end-2
+part-result-end-2 c = search needs
+
+returns-3 : tie.Need-returns-3
+returns-3 c =
+    let st = c .before .before .before .before .args in
+    slice-rest (st .start) (st .stop) (st .bytes .now) (search needs)
+
+slice-aggregate-result-2 : tie.Need-slice-aggregate-result-2
+slice-aggregate-result-2 c = search needs
+
+returns-4 : tie.Need-returns-4
+returns-4 c =
+    let st = c .before .before .before .before .args in
+    sym (slice-past (st .start) (st .stop) (st .bytes .now) (search needs))
+
+pub part-spec : {M : Type 1} → statement M
+part-spec =
+    tie.close
+    (tie.spec
+    slice-aggregate-result
+    returns
+    sub-result
+    part-result-start
+    part-result-end
+    returns-2
+    sub-result-2
+    part-result-start-2
+    part-result-end-2
+    returns-3
+    slice-aggregate-result-2
+    returns-4)

@@ -1,0 +1,28 @@
+// Byte order.
+use crate::Order;
+ghost use mathlib.Core.Path.{_≡_};
+ghost use Rattle.model.specs.Search.{byteOrder};
+
+// How `a` stands to `b` in byte order.
+pub fn byte_order(a: &[u8], b: &[u8]) -> Order
+    ensures { λ r. ⌜ r ≡ byteOrder (now (a .entry)) (now (b .entry)) ⌝ }
+{
+    let mut i = 0;
+    while i < a.len() {
+        if b.len() <= i {
+            return Order::Greater;
+        }
+        if a[i] < b[i] {
+            return Order::Less;
+        }
+        if b[i] < a[i] {
+            return Order::Greater;
+        }
+        i += 1;
+    }
+    if i < b.len() {
+        Order::Less
+    } else {
+        Order::Equal
+    }
+}

@@ -1,0 +1,43 @@
+// Parts of lent bytes: the strings that lie end to end, pieces and the contents of tokens.
+ghost use mathlib.Core.Path.{_≡_};
+ghost use mathlib.Core.List.{[]};
+ghost use lib.ListN.{getD};
+ghost use lib.Seq.{slice};
+ghost use Rattle.model.specs.Model.{strings};
+
+// The bytes from `start` up to `stop`, as far as there are any.
+pub fn part(bytes: &[u8], start: usize, stop: usize) -> &[u8]
+    ensures { λ r. ⌜ now r ≡ slice start stop (now (bytes .entry)) ⌝ }
+{
+    if stop <= start {
+        return &bytes[..0];
+    }
+    if stop <= bytes.len() {
+        return &bytes[start..stop];
+    }
+    if start <= bytes.len() {
+        return &bytes[start..];
+    }
+    &bytes[..0]
+}
+
+// A 32-bit number of a table as a place.
+pub fn wide(n: u32) -> usize
+    ensures { λ r. ⌜ r ≡ n ⌝ }
+{
+    n as usize
+}
+
+// The string at `i` of those that `offsets` cuts `bytes` into; the empty part where there is none.
+pub fn string_at<'a>(bytes: &'a [u8], offsets: &[u32], i: usize) -> &'a [u8]
+    ensures { λ r. ⌜ now r ≡ getD (strings (now (bytes .entry)) (now (offsets .entry))) i [] ⌝ }
+{
+    if offsets.len() <= i {
+        return &bytes[..0];
+    }
+    let next = i + 1;
+    if offsets.len() <= next {
+        return &bytes[..0];
+    }
+    part(bytes, wide(offsets[i]), wide(offsets[next]))
+}

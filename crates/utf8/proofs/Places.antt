@@ -1,0 +1,121 @@
+-- What the words on lists give at a place: the laws that a loop over a table asks for.
+use mathlib.Core.Path.{_≡_, refl, sym, ap, ap₂, _∙_, subst}
+use mathlib.Core.Bool.{Bool, true, false, _&&_, _||_}
+use mathlib.Core.List.{List, [], _∷_, _++_, map}
+use Prim.Native.Nat.{ℕ, zero, suc, _+_, _-_, _≤_, _<_, min, suc-le-suc}
+use native.Mathlib.Nat.{le-of-suc-le-suc, not-suc-le-zero, suc-sub-suc, sub-zero, zero-sub, suc-add, add-suc, add-zero, zero-add, zero-min, min-zero, suc-min-suc}
+use native.Mathlib.Numerals.{add-one}
+use native.Mathlib.Omega.{arith}
+use lib.ListN.{length, getD, take, drop, length-take, drop-of-length-le, length-map, List·getD-map, List·getD-eq-default}
+use lib.Seq.{drop-cons, take-nil, take-all, take-length, slice}
+use Rattle.utf8.specs.Lists.{any, all, neighboursFrom, neighbours, between, numberedFrom, numbered, zip}
+
+module _ {ℓ} {A : Type ℓ} (test : A → Bool) (xs : List A) (i : ℕ) where
+  -- ---- one element more, and the end
+
+  pub any-at : (d : A) → i < length xs → any test (drop i xs) ≡ test (getD xs i d) || any test (drop (i + 1) xs)
+  any-at d h = rw (add-one, drop-cons xs i d h)
+
+  pub any-found : (d : A) → i < length xs → test (getD xs i d) ≡ true → any test (drop i xs) ≡ true
+  any-found d h e = any-at d h ∙ rw e
+
+  pub any-next : (d : A) → i < length xs → test (getD xs i d) ≡ false → any test (drop i xs) ≡ any test (drop (i + 1) xs)
+  any-next d h e = any-at d h ∙ rw e
+
+  pub any-ended : length xs ≤ i → any test (drop i xs) ≡ false
+  any-ended h = rw (drop-of-length-le xs h)
+
+  pub all-at : (d : A) → i < length xs → all test (drop i xs) ≡ test (getD xs i d) && all test (drop (i + 1) xs)
+  all-at d h = rw (add-one, drop-cons xs i d h)
+
+  pub all-broken : (d : A) → i < length xs → test (getD xs i d) ≡ false → all test (drop i xs) ≡ false
+  all-broken d h e = all-at d h ∙ rw e
+
+  pub all-next : (d : A) → i < length xs → test (getD xs i d) ≡ true → all test (drop i xs) ≡ all test (drop (i + 1) xs)
+  all-next d h e = all-at d h ∙ rw e
+
+  pub all-ended : length xs ≤ i → all test (drop i xs) ≡ true
+  all-ended h = rw (drop-of-length-le xs h)
+
+module _ {ℓ} {A : Type ℓ} where
+  -- ---- neighbours
+
+  length-neighboursFrom : (x : A) (xs : List A) → length (neighboursFrom x xs) ≡ length xs
+  length-neighboursFrom x [] = refl
+  length-neighboursFrom x (y ∷ ys) = ap suc (length-neighboursFrom y ys)
+
+  pub length-neighbours : (xs : List A) → length (neighbours xs) ≡ length xs - 1
+  length-neighbours [] = refl
+  length-neighbours (x ∷ xs) = length-neighboursFrom x xs ∙ omega arith
+
+  getD-neighboursFrom : (x : A) (xs : List A) (i : ℕ) (d e : A) → i < length xs → getD (neighboursFrom x xs) i (d, e) ≡ (getD (x ∷ xs) i d, getD xs i e)
+  getD-neighboursFrom x [] i d e h = absurd (not-suc-le-zero h)
+  getD-neighboursFrom x (y ∷ ys) zero d e h = refl
+  getD-neighboursFrom x (y ∷ ys) (suc i) d e h = getD-neighboursFrom y ys i d e (le-of-suc-le-suc h)
+
+  pub getD-neighbours : (xs : List A) (i : ℕ) (d e : A) → i + 1 < length xs → getD (neighbours xs) i (d, e) ≡ (getD xs i d, getD xs (i + 1) e)
+  getD-neighbours [] i d e h = absurd (not-suc-le-zero h)
+  getD-neighbours (x ∷ xs) i d e h = rw add-one (getD-neighboursFrom x xs i d e (omega arith))
+
+  -- ---- elements with their places
+
+  length-numberedFrom : (p : ℕ) (xs : List A) → length (numberedFrom p xs) ≡ length xs
+  length-numberedFrom p [] = refl
+  length-numberedFrom p (x ∷ xs) = ap suc (length-numberedFrom (suc p) xs)
+
+  pub length-numbered : (xs : List A) → length (numbered xs) ≡ length xs
+  length-numbered xs = length-numberedFrom 0 xs
+
+  getD-numberedFrom : (p : ℕ) (xs : List A) (i q : ℕ) (d : A) → i < length xs → getD (numberedFrom p xs) i (q, d) ≡ (p + i, getD xs i d)
+  getD-numberedFrom p [] i q d h = absurd (not-suc-le-zero h)
+  getD-numberedFrom p (x ∷ xs) zero q d h = rw add-zero
+  getD-numberedFrom p (x ∷ xs) (suc i) q d h = rw (add-suc, ← suc-add) (getD-numberedFrom (suc p) xs i q d (le-of-suc-le-suc h))
+
+  pub getD-numbered : (xs : List A) (i q : ℕ) (d : A) → i < length xs → getD (numbered xs) i (q, d) ≡ (i, getD xs i d)
+  getD-numbered xs i q d h = getD-numberedFrom 0 xs i q d h ∙ rw zero-add
+
+module _ {ℓ κ} {A : Type ℓ} {B : Type κ} where
+  -- ---- two lists side by side
+
+  pub length-zip : (xs : List A) (ys : List B) → length (zip xs ys) ≡ min (length xs) (length ys)
+  length-zip [] ys = sym (zero-min (length ys))
+  length-zip (x ∷ xs) [] = sym (min-zero (suc (length xs)))
+  length-zip (x ∷ xs) (y ∷ ys) = ap suc (length-zip xs ys) ∙ sym (suc-min-suc (length xs) (length ys))
+
+  pub getD-zip : (xs : List A) (ys : List B) (i : ℕ) (d : A) (e : B) → i < length xs → i < length ys → getD (zip xs ys) i (d, e) ≡ (getD xs i d, getD ys i e)
+  getD-zip [] ys i d e h k = absurd (not-suc-le-zero h)
+  getD-zip (x ∷ xs) [] i d e h k = absurd (not-suc-le-zero k)
+  getD-zip (x ∷ xs) (y ∷ ys) zero d e h k = refl
+  getD-zip (x ∷ xs) (y ∷ ys) (suc i) d e h k = getD-zip xs ys i d e (le-of-suc-le-suc h) (le-of-suc-le-suc k)
+
+module _ {ℓ} {A : Type ℓ} where
+  -- ---- a part from a place to a place
+
+  pub slice-none : (f t : ℕ) (l : List A) → t ≤ f → slice f t l ≡ []
+  slice-none f t l h = drop-of-length-le (take t l) {i = f} (omega (arith, length-take t l))
+
+  pub slice-past : (f t : ℕ) (l : List A) → length l ≤ f → slice f t l ≡ []
+  slice-past f t l h = drop-of-length-le (take t l) {i = f} (omega (arith, length-take t l))
+
+  pub slice-of : (f t : ℕ) (l : List A) → take (t - f) (drop f l) ≡ slice f t l
+  slice-of zero t l = rw sub-zero
+  slice-of (suc f) zero l = rw zero-sub
+  slice-of (suc f) (suc t) [] = take-nil (suc t - suc f)
+  slice-of (suc f) (suc t) (x ∷ xs) = rw suc-sub-suc (slice-of f t xs)
+
+  pub slice-rest : (f t : ℕ) (l : List A) → length l ≤ t → take (length l - f) (drop f l) ≡ slice f t l
+  slice-rest f t l h = slice-of f (length l) l ∙ rw (take-all t l h, take-length)
+
+-- ---- parts between places
+
+pub length-between : (places xs : List ℕ) → length (between places xs) ≡ length places - 1
+length-between places xs = length-map (neighbours places) _ ∙ length-neighbours places
+
+pub getD-between : (places xs : List ℕ) (i : ℕ) → i + 1 < length places → getD (between places xs) i [] ≡ slice (getD places i 0) (getD places (i + 1) 0) xs
+getD-between places xs i h =
+    let part : ℕ × ℕ → List ℕ = λ p. slice (p .0) (p .1) xs in
+    List·getD-map part (neighbours places) i (0, 0) ∙ ap part (getD-neighbours places i 0 0 h)
+
+-- past the last part there is none
+pub getD-between-past : (places xs : List ℕ) (i : ℕ) → length places ≤ i + 1 → getD (between places xs) i [] ≡ []
+getD-between-past places xs i h = List·getD-eq-default (between places xs) [] (rw length-between (omega arith))
