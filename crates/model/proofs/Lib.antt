@@ -1,2 +1,3 @@
 pub mod OrderLaws
+pub mod SearchLaws
 pub mod StringLaws

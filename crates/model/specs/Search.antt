@@ -3,6 +3,8 @@ use Prim.Native.Nat.{ℕ, zero, suc, _+_, _-_, _/_}
 use mathlib.Core.Bool.{Bool, true, false, cond}
 use mathlib.Core.List.{List, [], _∷_}
 use lib.Dec.{ltb}
+use lib.ListN.{length, getD}
+use Rattle.model.specs.Model.{piece}
 use Rattle.model.specs.declared.Order.{Order}
 use Rattle.model.specs.declared.Order.the-variants.{Less, Equal, Greater}
 use Rattle.model.specs.declared.Found.{Found}
@@ -48,3 +50,19 @@ searchFor (suc turns) order lo hi =
 -- The place from lo up to hi at which a search by halves ends; order says how the entry at a place stands to what is sought.
 unfoldable pub searched : (ℕ → Order) → ℕ → ℕ → Found
 searched order lo hi = searchFor (hi - lo) order lo hi
+
+-- How the piece of an entry of the lookup list stands to a string.
+unfoldable pub pieceOrder : List (List ℕ) → List ℕ → List ℕ → ℕ → Order
+pieceOrder pieces lookup bytes i = byteOrder (piece pieces (getD lookup i 0)) bytes
+
+-- The place in the lookup list at which a search for a string ends.
+unfoldable pub foundPiece : List (List ℕ) → List ℕ → List ℕ → Found
+foundPiece pieces lookup bytes = searched (pieceOrder pieces lookup bytes) 0 (length lookup)
+
+-- How a merge row's pair stands to a pair of ids.
+unfoldable pub rowOrder : List ℕ → List ℕ → ℕ → ℕ → ℕ → Order
+rowOrder left right l r i = pairOrder (getD left i 0, getD right i 0) (l, r)
+
+-- The place among the merge rows at which a search for a pair ends.
+unfoldable pub foundRow : List ℕ → List ℕ → ℕ → ℕ → Found
+foundRow left right l r = searched (rowOrder left right l r) 0 (length left)

@@ -1,7 +1,7 @@
-// Byte order.
+// Byte order, and the order of pairs of ids.
 use crate::Order;
 ghost use mathlib.Core.Path.{_≡_};
-ghost use Rattle.model.specs.Search.{byteOrder};
+ghost use Rattle.model.specs.Search.{byteOrder, pairOrder};
 
 // How `a` stands to `b` in byte order.
 pub fn byte_order(a: &[u8], b: &[u8]) -> Order
@@ -25,4 +25,23 @@ pub fn byte_order(a: &[u8], b: &[u8]) -> Order
     } else {
         Order::Equal
     }
+}
+
+// How the pair `a`, `b` stands to the pair `l`, `r`.
+pub fn pair_order(a: u32, b: u32, l: u32, r: u32) -> Order
+    ensures { λ o. ⌜ o ≡ pairOrder (a, b) (l, r) ⌝ }
+{
+    if a < l {
+        return Order::Less;
+    }
+    if l < a {
+        return Order::Greater;
+    }
+    if b < r {
+        return Order::Less;
+    }
+    if r < b {
+        return Order::Greater;
+    }
+    Order::Equal
 }

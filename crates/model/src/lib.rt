@@ -1,7 +1,8 @@
 // The model's types. The tables themselves are lent as slices, one a column; what they mean is in specs/Model.antt.
 
 pub mod compare;
-pub mod strings;
+pub mod search;
+pub mod tables;
 
 // A string of the step bytes: `len` bytes from `place` on.
 pub struct Span {

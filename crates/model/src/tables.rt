@@ -1,4 +1,4 @@
-// Parts of lent bytes: the strings that lie end to end, pieces and the contents of tokens.
+// Reading the lent tables: numbers of a column, parts of bytes, and the strings that lie end to end.
 ghost use mathlib.Core.Path.{_≡_};
 ghost use mathlib.Core.List.{[]};
 ghost use lib.ListN.{getD};
@@ -26,6 +26,13 @@ pub fn wide(n: u32) -> usize
     ensures { λ r. ⌜ r ≡ n ⌝ }
 {
     n as usize
+}
+
+// The number at `i` of a column, 0 past its end.
+pub fn number_at(column: &[u32], i: usize) -> u32
+    ensures { λ r. ⌜ r ≡ getD (now (column .entry)) i 0 ⌝ }
+{
+    if i < column.len() { column[i] } else { 0 }
 }
 
 // The string at `i` of those that `offsets` cuts `bytes` into; the empty part where there is none.

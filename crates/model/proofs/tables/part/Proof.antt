@@ -1,9 +1,9 @@
--- `model::strings::part` meets its contract: by the laws of a part from a place to a place.
+-- `model::tables::part` meets its contract: by the laws of a part from a place to a place.
 use mathlib.Core.Path.{sym}
 use borrow.Author.Needs.{needs}
 use Rattle.utf8.proofs.Places.{slice-none, slice-of, slice-rest, slice-past}
-use Rattle.model.proofs.strings.part.Statement.{statement}
-use Rattle.model.proofs.strings.part.Tie as tie
+use Rattle.model.proofs.tables.part.Statement.{statement}
+use Rattle.model.proofs.tables.part.Tie as tie
 
 slice-aggregate-result : tie.Need-slice-aggregate-result
 slice-aggregate-result c = search needs

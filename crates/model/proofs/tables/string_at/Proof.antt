@@ -1,9 +1,9 @@
--- `model::strings::string_at` meets its contract: by the laws of strings that lie end to end.
+-- `model::tables::string_at` meets its contract: by the laws of strings that lie end to end.
 use mathlib.Core.Path.{sym}
 use borrow.Author.Needs.{needs}
 use Rattle.model.proofs.StringLaws.{string-is, string-past}
-use Rattle.model.proofs.strings.string_at.Statement.{statement}
-use Rattle.model.proofs.strings.string_at.Tie as tie
+use Rattle.model.proofs.tables.string_at.Statement.{statement}
+use Rattle.model.proofs.tables.string_at.Tie as tie
 
 slice-aggregate-result : tie.Need-slice-aggregate-result
 slice-aggregate-result c = search needs
