@@ -1,0 +1,8 @@
+-- Laws on the definitions of this crate, for its proofs and those of the crates above it.
+pub mod Tests
+pub mod Lists
+pub mod Cut
+pub mod Forms
+pub mod Tails
+pub mod Characters
+pub mod Valid
