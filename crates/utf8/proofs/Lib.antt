@@ -1,1 +1,9 @@
+-- Laws on the definitions of this crate, for its proofs and those of the crates above it.
+pub mod Tests
+pub mod Lists
 pub mod Places
+pub mod Cut
+pub mod Forms
+pub mod Tails
+pub mod Characters
+pub mod Valid

@@ -1,1 +1,2 @@
 // UTF-8 by RFC 3629, and Unicode's White_Space.
+pub mod chars;

@@ -1,0 +1,26 @@
+-- Laws on the words of `specs/Lists`. Assumes nothing.
+use Prim.Native.Nat.{ℕ, zero, suc, _-_, _≤_, _<_}
+use native.Mathlib.Nat.{not-suc-le-zero}
+use native.Mathlib.Omega.{arith}
+use mathlib.Core.Path.{_≡_, refl, sym, ap, _∙_}
+use mathlib.Core.List.{List, [], _∷_, _++_, append-assoc}
+use lib.ListN.{length, take, drop, length-drop}
+use lib.Seq.{take-all}
+use Rattle.utf8.specs.Lists.{join}
+
+module _ {ℓ} {A : Type ℓ} where
+  -- What holds of a list where it holds of every shorter one holds of all.
+  pub by-length {κ} : (P : List A → Type κ) → ((t : List A) → ((u : List A) → length u < length t → P u) → P t) → (t : List A) → P t
+  by-length P step t = go (suc (length t)) t (omega arith)
+    where
+      go : (n : ℕ) (t : List A) → length t < n → P t
+      go zero t h = absurd (not-suc-le-zero h)
+      go (suc n) t h = step t (λ u l. go n u (omega arith))
+
+  pub join-append : (xs ys : List (List A)) → join (xs ++ ys) ≡ join xs ++ join ys
+  join-append [] ys = refl
+  join-append (x ∷ xs) ys = ap (λ (l : List A). x ++ l) (join-append xs ys) ∙ sym (append-assoc x (join xs) (join ys))
+
+  -- The part of a list from a place to its end.
+  pub part-to-end : (l : List A) (i : ℕ) → take (length l - i) (drop i l) ≡ drop i l
+  part-to-end l i = take-all (length l - i) (drop i l) (omega (arith, length-drop i l))

@@ -1,0 +1,117 @@
+// UTF-8 by RFC 3629: characters, and the longest prefix that is valid.
+ghost use mathlib.Core.Path.{_≡_};
+ghost use mathlib.Core.Bool.{cond};
+ghost use mathlib.Core.List.{_∷_};
+ghost use Prim.Native.Nat.{_+_, _*_, _-_, _≤_};
+ghost use lib.ListN.{length, take, drop, replicate};
+ghost use Rattle.utf8.specs.Lists.{within};
+ghost use Rattle.utf8.specs.Chars.{tail, hasForm, charWidth, valid, longestValidPrefix, codePoint};
+
+fn is_within(b: u8, low: u8, high: u8) -> bool
+    ensures { λ r. ⌜ r ≡ within (low, high) b ⌝ }
+{
+    if b < low {
+        return false;
+    }
+    b <= high
+}
+
+// The width n where the second byte of s lies from low to high and those after it, up to the n-th, are UTF8-tails; else 0.
+fn width_if(s: &[u8], n: usize, low: u8, high: u8) -> usize
+    requires { ⌜ 2 ≤ n ⌝ }
+    ensures { λ r. ⌜ r ≡ cond (hasForm ((low, high) ∷ replicate (n - 2) tail) (drop 1 (now (s .entry)))) n 0 ⌝ }
+{
+    if s.len() < n {
+        return 0;
+    }
+    if !is_within(s[1], low, high) {
+        return 0;
+    }
+    let mut i = 2;
+    while i < n {
+        if !is_within(s[i], 0x80, 0xBF) {
+            return 0;
+        }
+        i += 1;
+    }
+    n
+}
+
+// The width of the character at the head of s, 0 where none stands there. RFC 3629, section 4, by the first byte.
+pub fn char_width(s: &[u8]) -> usize
+    ensures { λ r. ⌜ r ≡ charWidth (now (s .entry)) ⌝ }
+{
+    if s.len() == 0 {
+        return 0;
+    }
+    let a = s[0];
+    match a {
+        0x00..=0x7F => 1,
+        0xC2..=0xDF => width_if(s, 2, 0x80, 0xBF),
+        0xE0 => width_if(s, 3, 0xA0, 0xBF),
+        0xE1..=0xEC => width_if(s, 3, 0x80, 0xBF),
+        0xED => width_if(s, 3, 0x80, 0x9F),
+        0xEE..=0xEF => width_if(s, 3, 0x80, 0xBF),
+        0xF0 => width_if(s, 4, 0x90, 0xBF),
+        0xF1..=0xF3 => width_if(s, 4, 0x80, 0xBF),
+        0xF4 => width_if(s, 4, 0x80, 0x8F),
+        _ => 0,
+    }
+}
+
+// How long the longest prefix of s that is valid UTF-8 is.
+pub fn valid_prefix(s: &[u8]) -> usize
+    ensures { λ r. ⌜ r ≡ length (longestValidPrefix (now (s .entry))) ⌝ }
+{
+    let mut i = 0;
+    while i < s.len() {
+        let w = char_width(&s[i..]);
+        if w == 0 {
+            return i;
+        }
+        i += w;
+    }
+    i
+}
+
+pub fn is_valid(s: &[u8]) -> bool
+    ensures { λ r. ⌜ r ≡ valid (now (s .entry)) ⌝ }
+{
+    valid_prefix(s) == s.len()
+}
+
+// A character's bits so far, and those of the next UTF8-tail.
+fn joined(number: u32, tail: u8) -> u32
+    requires { ⌜ (number ≤ 0xFFFF) × (0x80 ≤ tail) ⌝ }
+    ensures { λ r. ⌜ r ≡ number * 64 + (tail - 0x80) ⌝ }
+{
+    number * 64 + (tail as u32 - 0x80)
+}
+
+// The number of the character at the head of s, whose width is w.
+pub fn number_of(s: &[u8], w: usize) -> u32
+    requires { ⌜ w ≡ charWidth (now s) ⌝ }
+    ensures { λ r. ⌜ r ≡ codePoint (take w (now (s .entry))) ⌝ }
+{
+    if w == 0 {
+        return 0;
+    }
+    let first = s[0] as u32;
+    if w == 1 {
+        return first;
+    }
+    if w == 2 {
+        return joined(first - 0xC0, s[1]);
+    }
+    if w == 3 {
+        return joined(joined(first - 0xE0, s[1]), s[2]);
+    }
+    joined(joined(joined(first - 0xF0, s[1]), s[2]), s[3])
+}
+
+// The number of the character at the head of s, 0 where none stands there.
+pub fn code_point(s: &[u8]) -> u32
+    ensures { λ r. ⌜ r ≡ codePoint (take (charWidth (now (s .entry))) (now (s .entry))) ⌝ }
+{
+    number_of(s, char_width(s))
+}
