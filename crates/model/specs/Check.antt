@@ -38,12 +38,15 @@ wrongRowSizes left right result rank =
     ltb 1048576 (length left) || not (all (eqb (length left)) (length right ∷ length result ∷ length rank ∷ []))
 
 -- "8,192 added tokens in each of the two lists", an empty offset row, and columns that differ in length.
-unfoldable pub wrongTokenSizes : TokenList → Bool
-wrongTokenSizes t =
-    isEmpty (t .offsets)
-    || ltb 8192 (length (t .offsets) - 1)
-    || stringTooLong (t .offsets)
-    || not (all (eqb (length (t .offsets) - 1)) (length (t .ids) ∷ length (t .lstrip) ∷ length (t .rstrip) ∷ []))
+unfoldable pub wrongTokenSizes : List ℕ → List ℕ → List Bool → List Bool → Bool
+wrongTokenSizes offsets ids lstrip rstrip =
+    isEmpty offsets
+    || ltb 8192 (length offsets - 1)
+    || stringTooLong offsets
+    || not (all (eqb (length offsets - 1)) (length ids ∷ length lstrip ∷ length rstrip ∷ []))
+
+unfoldable pub wrongListSizes : TokenList → Bool
+wrongListSizes t = wrongTokenSizes (t .offsets) (t .ids) (t .lstrip) (t .rstrip)
 
 -- "16 steps"
 unfoldable pub wrongStepSizes : List Step → ℕ → Bool
@@ -54,8 +57,8 @@ wrongSizes m =
     wrongPieceSizes (m .pieceBytes) (m .pieceOffsets)
     || not (eqb (length (m .fallback)) 256)
     || wrongRowSizes (m .left) (m .right) (m .result) (m .rank)
-    || wrongTokenSizes (m .first)
-    || wrongTokenSizes (m .second)
+    || wrongListSizes (m .first)
+    || wrongListSizes (m .second)
     || wrongStepSizes (stepsOf m) (m .stepCount)
 
 -- "Text 1,048,576 bytes or ids", which is part of 1 for the calls that have a text or ids.
