@@ -1,3 +1,4 @@
+pub mod CheckLaws
 pub mod OrderLaws
 pub mod SearchLaws
 pub mod StringLaws

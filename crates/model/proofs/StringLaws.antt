@@ -1,10 +1,13 @@
 -- Laws of the strings that lie end to end: how many there are, and which stands at a place.
 use mathlib.Core.Path.{_≡_}
+use mathlib.Core.Bool.{Bool, true, false}
 use mathlib.Core.List.{List, []}
 use Prim.Native.Nat.{ℕ, _+_, _-_, _≤_, _<_}
-use lib.ListN.{length, getD}
+use native.Mathlib.Omega.{arith}
+use lib.ListN.{length, getD, drop}
 use lib.Seq.{slice}
-use Rattle.utf8.proofs.Places.{length-between, getD-between, getD-between-past}
+use Rattle.utf8.specs.Lists.{any}
+use Rattle.utf8.proofs.Places.{length-between, getD-between, getD-between-past, any-found, any-next, any-ended}
 use Rattle.model.specs.Model.{strings}
 
 module _ (bytes offsets : List ℕ) where
@@ -19,3 +22,14 @@ module _ (bytes offsets : List ℕ) where
   pub string-past : (i : ℕ) → length offsets ≤ i + 1 → getD (strings bytes offsets) i [] ≡ []
   unfolding strings
   string-past i h = getD-between-past offsets bytes i h
+
+-- Tests of all strings, one string more and the end.
+module _ (test : List ℕ → Bool) (bytes offsets : List ℕ) (i : ℕ) where
+  pub any-string-found : i + 1 < length offsets → test (getD (strings bytes offsets) i []) ≡ true → any test (drop i (strings bytes offsets)) ≡ true
+  any-string-found h e = any-found test (strings bytes offsets) i [] (omega (arith, length-strings bytes offsets)) e
+
+  pub any-string-next : i + 1 < length offsets → test (getD (strings bytes offsets) i []) ≡ false → any test (drop i (strings bytes offsets)) ≡ any test (drop (i + 1) (strings bytes offsets))
+  any-string-next h e = any-next test (strings bytes offsets) i [] (omega (arith, length-strings bytes offsets)) e
+
+  pub any-string-ended : length offsets ≤ i + 1 → any test (drop i (strings bytes offsets)) ≡ false
+  any-string-ended h = any-ended test (strings bytes offsets) i (omega (arith, length-strings bytes offsets))

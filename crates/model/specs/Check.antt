@@ -20,8 +20,11 @@ stepSpans steps = joinMap spansOf steps
 -- 1: "a size above is exceeded, a table's columns differ in length, or the fallback ids aren't 256"
 
 -- "255 bytes for a piece, a token's content" by its offsets; "an offset pair that falls has no length".
+unfoldable pub pairTooLong : ℕ × ℕ → Bool
+pairTooLong p = ltb 255 (p .1 - p .0)
+
 unfoldable pub stringTooLong : List ℕ → Bool
-stringTooLong offsets = any (λ (p : ℕ × ℕ). ltb 255 (p .1 - p .0)) (neighbours offsets)
+stringTooLong offsets = any pairTooLong (neighbours offsets)
 
 -- "255 bytes for .. a step's string".
 unfoldable pub spanTooLong : Span → Bool
@@ -67,26 +70,30 @@ textTooLong size = ltb 1048576 size
 
 -- 2: "offsets of pieces, tokens or step strings don't run in order inside their bytes"
 
+unfoldable pub pairRises : ℕ × ℕ → Bool
+pairRises p = leb (p .0) (p .1)
+
 -- Offsets "run from 0 to the total".
 unfoldable pub runInOrder : List ℕ → List ℕ → Bool
 runInOrder bytes offsets =
-    eqb (getD offsets 0 0) 0
-    && all (λ (p : ℕ × ℕ). leb (p .0) (p .1)) (neighbours offsets)
-    && eqb (lastOr 0 offsets) (length bytes)
+    eqb (getD offsets 0 0) 0 && all pairRises (neighbours offsets) && eqb (lastOr 0 offsets) (length bytes)
 
-unfoldable pub liesInside : List ℕ → Span → Bool
-liesInside bytes span = leb (span .place + span .len) (length bytes)
+unfoldable pub liesOutside : List ℕ → Span → Bool
+liesOutside bytes span = ltb (length bytes) (span .place + span .len)
 
 unfoldable pub offsetsAstray : Model → Bool
 offsetsAstray m =
     not (runInOrder (m .pieceBytes) (m .pieceOffsets))
     || not (runInOrder (m .first .bytes) (m .first .offsets))
     || not (runInOrder (m .second .bytes) (m .second .offsets))
-    || not (all (liesInside (m .stepBytes)) (stepSpans (stepsOf m)))
+    || any (liesOutside (m .stepBytes)) (stepSpans (stepsOf m))
 
 -- 3: "a piece is neither valid UTF-8 nor exactly one byte"
+unfoldable pub neitherTextNorByte : List ℕ → Bool
+neitherTextNorByte bytes = not (valid bytes) && not (eqb (length bytes) 1)
+
 unfoldable pub badPiece : List (List ℕ) → Bool
-badPiece pieces = any (λ (bytes : List ℕ). not (valid bytes) && not (eqb (length bytes) 1)) pieces
+badPiece pieces = any neitherTextNorByte pieces
 
 -- 4: "the lookup list breaks its rule"
 
@@ -108,12 +115,12 @@ pieceMissing pieces lookup = any (λ (bytes : List ℕ). not (isEmpty bytes) && 
 unfoldable pub badLookup : List (List ℕ) → List ℕ → Bool
 badLookup pieces lookup = any (namesNoPiece pieces) lookup || not (lookupAscends pieces lookup) || pieceMissing pieces lookup
 
--- 5: "a fallback id other than none is not below the piece count, or its piece is not that one byte"
-unfoldable pub fallbackFits : List (List ℕ) → ℕ → ℕ → Bool
-fallbackFits pieces byte id = eqb id noId || ltb id (length pieces) && same (piece pieces id) (byte ∷ [])
+-- 5, of a byte and its entry: "a fallback id other than none is not below the piece count, or its piece is not that one byte"
+unfoldable pub fallbackFits : List (List ℕ) → ℕ × ℕ → Bool
+fallbackFits pieces entry = eqb (entry .1) noId || ltb (entry .1) (length pieces) && same (piece pieces (entry .1)) (entry .0 ∷ [])
 
 unfoldable pub badFallback : List (List ℕ) → List ℕ → Bool
-badFallback pieces fallback = not (all (λ (entry : ℕ × ℕ). fallbackFits pieces (entry .0) (entry .1)) (numbered fallback))
+badFallback pieces fallback = not (all (fallbackFits pieces) (numbered fallback))
 
 -- 6: "a merge row is out of order, names an id not below the piece count, or its result's piece isn't left joined to right"
 
@@ -140,12 +147,23 @@ badRow pieces left right result =
     || not (rowsJoin pieces left right result)
 
 -- 7: "an added token's content is empty or not valid UTF-8"
+unfoldable pub emptyOrNoText : List ℕ → Bool
+emptyOrNoText bytes = isEmpty bytes || not (valid bytes)
+
 unfoldable pub badToken : List (List ℕ) → Bool
-badToken contents = any (λ (bytes : List ℕ). isEmpty bytes || not (valid bytes)) contents
+badToken contents = any emptyOrNoText contents
 
 -- 8: "a step's string is not valid UTF-8"
+unfoldable pub noText : List ℕ → Span → Bool
+noText bytes span = not (valid (stepString bytes span))
+
 unfoldable pub badStep : List ℕ → List Step → Bool
-badStep bytes steps = any (λ (span : Span). not (valid (stepString bytes span))) (stepSpans steps)
+badStep bytes steps = any (noText bytes) (stepSpans steps)
+
+-- What the tests 1, 2 and 8 ask of a step's string.
+unfoldable pub spanFails : ℕ → List ℕ → Span → Bool
+spanFails number bytes span =
+    cond (eqb number 1) (spanTooLong span) (cond (eqb number 2) (liesOutside bytes span) (noText bytes span))
 
 -- "Every call tests 1 to 8 on the whole model"; size is that of the call's text or ids.
 unfoldable pub modelTests : Model → ℕ → List (ℕ × Bool)

@@ -1,8 +1,13 @@
 // The model's types. The tables themselves are lent as slices, one a column; what they mean is in specs/Model.antt.
 
 pub mod compare;
+mod fallback;
+mod offsets;
 pub mod search;
+mod sizes;
+mod steps;
 pub mod tables;
+mod texts;
 
 // A string of the step bytes: `len` bytes from `place` on.
 pub struct Span {

@@ -1,6 +1,7 @@
 // Reading the lent tables: numbers of a column, parts of bytes, and the strings that lie end to end.
 ghost use mathlib.Core.Path.{_≡_};
 ghost use mathlib.Core.List.{[]};
+ghost use Prim.Native.Nat.{_<_};
 ghost use lib.ListN.{getD};
 ghost use lib.Seq.{slice};
 ghost use Rattle.model.specs.Model.{strings};
@@ -23,7 +24,7 @@ pub fn part(bytes: &[u8], start: usize, stop: usize) -> &[u8]
 
 // A 32-bit number of a table as a place.
 pub fn wide(n: u32) -> usize
-    ensures { λ r. ⌜ r ≡ n ⌝ }
+    ensures { λ r. ⌜ (r ≡ n) × (r < 4294967296) ⌝ }
 {
     n as usize
 }

@@ -92,7 +92,7 @@ unfolding Chars.charForms Chars.charWidth Chars.chars Chars.isChar Chars.valid C
     Mark.mark Mark.space Mark.markWidth Mark.startsWithMark Mark.endsWithMark
     Answers.done Answers.refused Answers.placeOf Answers.filled Answers.scratchAfter Answers.outcome Answers.withScratch
     Search.isBefore
-    Check.stepSpans Check.stringTooLong Check.spanTooLong Check.wrongPieceSizes Check.wrongRowSizes Check.wrongTokenSizes Check.wrongListSizes Check.wrongStepSizes Check.wrongSizes Check.textTooLong Check.runInOrder Check.liesInside Check.offsetsAstray Check.badPiece Check.namesNoPiece Check.lookupAscends Check.isListed Check.pieceMissing Check.badLookup Check.fallbackFits Check.badFallback Check.pairBefore Check.rowsAscend Check.allBelow Check.rowsJoin Check.badRow Check.badToken Check.badStep Check.modelTests Check.checkNumber Check.checkOutcome
+    Check.stepSpans Check.pairTooLong Check.stringTooLong Check.spanTooLong Check.wrongPieceSizes Check.wrongRowSizes Check.wrongTokenSizes Check.wrongListSizes Check.wrongStepSizes Check.wrongSizes Check.textTooLong Check.pairRises Check.runInOrder Check.liesOutside Check.offsetsAstray Check.neitherTextNorByte Check.badPiece Check.namesNoPiece Check.lookupAscends Check.isListed Check.pieceMissing Check.badLookup Check.fallbackFits Check.badFallback Check.pairBefore Check.rowsAscend Check.allBelow Check.rowsJoin Check.badRow Check.emptyOrNoText Check.badToken Check.noText Check.badStep Check.modelTests Check.checkNumber Check.checkOutcome
     Steps.prepended Steps.occurrences Steps.replaced Steps.spaceRun Steps.collapsed Steps.stripped Steps.applied Steps.stepOutputs Steps.stepped
     Spaces.spacesMarked Spaces.schemePrepends Spaces.markPrepended Spaces.metaspaceOutput Spaces.metaspaced
     Normalise.normalised Normalise.outgrows Normalise.normaliseOutputs Normalise.normaliseNumber Normalise.normaliseOutcome

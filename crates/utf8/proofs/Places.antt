@@ -1,14 +1,15 @@
 -- What the words on lists give at a place: the laws that a loop over a table asks for.
 use mathlib.Core.Path.{_≡_, refl, sym, ap, ap₂, _∙_, subst}
-use mathlib.Core.Bool.{Bool, true, false, _&&_, _||_}
+use mathlib.Core.Bool.{Bool, true, false, _&&_, _||_, or-assoc}
 use mathlib.Core.List.{List, [], _∷_, _++_, map}
 use Prim.Native.Nat.{ℕ, zero, suc, _+_, _-_, _≤_, _<_, min, suc-le-suc}
 use native.Mathlib.Nat.{le-of-suc-le-suc, not-suc-le-zero, suc-sub-suc, sub-zero, zero-sub, suc-add, add-suc, add-zero, zero-add, zero-min, min-zero, suc-min-suc}
 use native.Mathlib.Numerals.{add-one}
 use native.Mathlib.Omega.{arith}
+use lib.Dec.{eqb, eqb·suc-zero}
 use lib.ListN.{length, getD, take, drop, length-take, drop-of-length-le, length-map, List·getD-map, List·getD-eq-default}
 use lib.Seq.{drop-cons, take-nil, take-all, take-length, slice}
-use Rattle.utf8.specs.Lists.{any, all, neighboursFrom, neighbours, between, numberedFrom, numbered, zip}
+use Rattle.utf8.specs.Lists.{isEmpty, lastOr, any, all, neighboursFrom, neighbours, between, numberedFrom, numbered, zip}
 
 module _ {ℓ} {A : Type ℓ} (test : A → Bool) (xs : List A) (i : ℕ) where
   -- ---- one element more, and the end
@@ -37,7 +38,26 @@ module _ {ℓ} {A : Type ℓ} (test : A → Bool) (xs : List A) (i : ℕ) where
   pub all-ended : length xs ≤ i → all test (drop i xs) ≡ true
   all-ended h = rw (drop-of-length-le xs h)
 
+module _ {ℓ} {A : Type ℓ} (test : A → Bool) where
+  pub any-append : (xs ys : List A) → any test (xs ++ ys) ≡ any test xs || any test ys
+  any-append [] ys = refl
+  any-append (x ∷ xs) ys = ap (λ (b : Bool). test x || b) (any-append xs ys) ∙ sym (or-assoc (test x) (any test xs) (any test ys))
+
 module _ {ℓ} {A : Type ℓ} where
+  pub empty-by-length : (xs : List A) → isEmpty xs ≡ eqb (length xs) 0
+  empty-by-length [] = refl
+  empty-by-length (x ∷ xs) = sym (eqb·suc-zero (length xs))
+
+  last-from : (x : A) (xs : List A) (d : A) → lastOr x xs ≡ getD (x ∷ xs) (length xs) d
+  last-from x [] d = refl
+  last-from x (y ∷ ys) d = last-from y ys d
+
+  pub last-at : (d : A) (xs : List A) → lastOr d xs ≡ getD xs (length xs - 1) d
+  last-at d [] = refl
+  last-at d (x ∷ xs) =
+      let n : length xs ≡ suc (length xs) - 1 = omega arith in
+      last-from x xs d ∙ ap (λ (k : ℕ). getD (x ∷ xs) k d) n
+
   -- ---- neighbours
 
   length-neighboursFrom : (x : A) (xs : List A) → length (neighboursFrom x xs) ≡ length xs
@@ -73,6 +93,48 @@ module _ {ℓ} {A : Type ℓ} where
 
   pub getD-numbered : (xs : List A) (i q : ℕ) (d : A) → i < length xs → getD (numbered xs) i (q, d) ≡ (i, getD xs i d)
   getD-numbered xs i q d h = getD-numberedFrom 0 xs i q d h ∙ rw zero-add
+
+module _ {ℓ} {A : Type ℓ} (test : A × A → Bool) (xs : List A) (i : ℕ) (d : A) where
+  -- ---- tests of neighbours, one pair more and the end
+
+  inside : i + 1 < length xs → i < length (neighbours xs)
+  inside h = omega (arith, length-neighbours xs)
+
+  at-pair : (b : Bool) → i + 1 < length xs → test (getD xs i d, getD xs (i + 1) d) ≡ b → test (getD (neighbours xs) i (d, d)) ≡ b
+  at-pair b h e = ap test (getD-neighbours xs i d d h) ∙ e
+
+  pub any-pair-found : i + 1 < length xs → test (getD xs i d, getD xs (i + 1) d) ≡ true → any test (drop i (neighbours xs)) ≡ true
+  any-pair-found h e = any-found test (neighbours xs) i (d, d) (inside h) (at-pair true h e)
+
+  pub any-pair-next : i + 1 < length xs → test (getD xs i d, getD xs (i + 1) d) ≡ false → any test (drop i (neighbours xs)) ≡ any test (drop (i + 1) (neighbours xs))
+  any-pair-next h e = any-next test (neighbours xs) i (d, d) (inside h) (at-pair false h e)
+
+  pub any-pair-ended : length xs ≤ i + 1 → any test (drop i (neighbours xs)) ≡ false
+  any-pair-ended h = any-ended test (neighbours xs) i (omega (arith, length-neighbours xs))
+
+  pub all-pair-broken : i + 1 < length xs → test (getD xs i d, getD xs (i + 1) d) ≡ false → all test (drop i (neighbours xs)) ≡ false
+  all-pair-broken h e = all-broken test (neighbours xs) i (d, d) (inside h) (at-pair false h e)
+
+  pub all-pair-next : i + 1 < length xs → test (getD xs i d, getD xs (i + 1) d) ≡ true → all test (drop i (neighbours xs)) ≡ all test (drop (i + 1) (neighbours xs))
+  all-pair-next h e = all-next test (neighbours xs) i (d, d) (inside h) (at-pair true h e)
+
+  pub all-pair-ended : length xs ≤ i + 1 → all test (drop i (neighbours xs)) ≡ true
+  all-pair-ended h = all-ended test (neighbours xs) i (omega (arith, length-neighbours xs))
+
+module _ {ℓ} {A : Type ℓ} (test : ℕ × A → Bool) (xs : List A) (i : ℕ) (d : A) where
+  -- ---- tests of elements with their places, one more and the end
+
+  at-numbered : (b : Bool) → i < length xs → test (i, getD xs i d) ≡ b → test (getD (numbered xs) i (0, d)) ≡ b
+  at-numbered b h e = ap test (getD-numbered xs i 0 d h) ∙ e
+
+  pub all-numbered-broken : i < length xs → test (i, getD xs i d) ≡ false → all test (drop i (numbered xs)) ≡ false
+  all-numbered-broken h e = all-broken test (numbered xs) i (0, d) (omega (arith, length-numbered xs)) (at-numbered false h e)
+
+  pub all-numbered-next : i < length xs → test (i, getD xs i d) ≡ true → all test (drop i (numbered xs)) ≡ all test (drop (i + 1) (numbered xs))
+  all-numbered-next h e = all-next test (numbered xs) i (0, d) (omega (arith, length-numbered xs)) (at-numbered true h e)
+
+  pub all-numbered-ended : length xs ≤ i → all test (drop i (numbered xs)) ≡ true
+  all-numbered-ended h = all-ended test (numbered xs) i (omega (arith, length-numbered xs))
 
 module _ {ℓ κ} {A : Type ℓ} {B : Type κ} where
   -- ---- two lists side by side
