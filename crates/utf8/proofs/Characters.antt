@@ -4,17 +4,17 @@ use Prim.Native.Nat.{ℕ, zero, suc, _+_, _*_, _-_, _≤_, _<_, max}
 use native.Mathlib.Nat.{not-suc-le-zero}
 use native.Mathlib.Omega.{arith}
 use mathlib.Core.Path.{_≡_, refl, sym, ap, ap₂, _∙_}
-use mathlib.Core.Bool.{Bool, true, false, cond, _&&_}
+use mathlib.Core.Bool.{Bool, true, false, cond}
 use mathlib.Core.Logic.{⊎-elim}
 use mathlib.Core.List.{List, [], _∷_, _++_, append-nil}
 use lib.ListN.{length, take, drop, getD, length-drop, take-append-drop}
 use lib.Seq.{take-at, drop-at}
 use Rattle.utf8.specs.Lists.{Range, within, all, join}
 use Rattle.utf8.specs.Chars.{tail, charForms, hasForm, charWidth, chars, codePoint}
-use Rattle.utf8.proofs.Tests.{either, clash, and-both, and-left}
+use Rattle.utf8.proofs.Tests.{either, and-left}
 use Rattle.utf8.proofs.Lists.{by-length}
 use Rattle.utf8.proofs.Cut.{cutBy-step, cutBy-append, join-cutBy}
-use Rattle.utf8.proofs.Forms.{firstOf, apart, beginsApart, widthAmong-le-length, widthAmong-le, widthAmong-take, widthAmong-append, widthAmong-lead, widthAmong-apart, widthAmong-keeps, widthAmong-inside, Bounds, widthAmong-bounds}
+use Rattle.utf8.proofs.Forms.{firstOf, beginsApart, widthAmong-le-length, widthAmong-le, widthAmong-take, widthAmong-append, widthAmong-lead, widthAmong-apart, widthAmong-keeps, widthAmong-inside, Bounds, widthAmong-bounds}
 
 pub charWidth-nil : charWidth [] ≡ 0
 unfolding charWidth charForms

@@ -1,12 +1,14 @@
 -- Laws on the words of `specs/Lists`. Assumes nothing.
-use Prim.Native.Nat.{ℕ, zero, suc, _-_, _≤_, _<_}
+use Prim.Native.Nat.{ℕ, zero, suc, _+_, _-_, _<_}
 use native.Mathlib.Nat.{not-suc-le-zero}
 use native.Mathlib.Omega.{arith}
+use native.Mathlib.Numerals.{add-one}
 use mathlib.Core.Path.{_≡_, refl, sym, ap, _∙_}
+use mathlib.Core.Bool.{Bool, _||_}
 use mathlib.Core.List.{List, [], _∷_, _++_, append-assoc}
-use lib.ListN.{length, take, drop, length-drop}
-use lib.Seq.{take-all}
-use Rattle.utf8.specs.Lists.{join}
+use lib.ListN.{length, take, drop, getD, length-drop}
+use lib.Seq.{take-all, drop-cons}
+use Rattle.utf8.specs.Lists.{any, lastOr, join}
 
 module _ {ℓ} {A : Type ℓ} where
   -- What holds of a list where it holds of every shorter one holds of all.
@@ -24,3 +26,10 @@ module _ {ℓ} {A : Type ℓ} where
   -- The part of a list from a place to its end.
   pub part-to-end : (l : List A) (i : ℕ) → take (length l - i) (drop i l) ≡ drop i l
   part-to-end l i = take-all (length l - i) (drop i l) (omega (arith, length-drop i l))
+
+  pub any-from : (test : A → Bool) (xs : List A) (i : ℕ) (d : A) → i < length xs → any test (drop i xs) ≡ (test (getD xs i d) || any test (drop (i + 1) xs))
+  any-from test xs i d h = rw (drop-cons xs i d h, add-one i)
+
+  pub lastOr-append : (d c : A) (xs : List A) → lastOr d (xs ++ (c ∷ [])) ≡ c
+  lastOr-append d c [] = refl
+  lastOr-append d c (x ∷ xs) = lastOr-append x c xs

@@ -1,19 +1,17 @@
 -- Laws of valid texts: the longest valid prefix is a prefix, it is valid, and no longer one is. Assumes nothing.
-use Prim.Native.Nat.{ℕ, zero, suc, _+_, _-_, _≤_, _<_, zero-le, max}
-use native.Mathlib.Nat.{not-suc-le-zero}
+use Prim.Native.Nat.{ℕ, zero, suc, _+_, _-_, _≤_, _<_, max}
 use native.Mathlib.Omega.{arith}
-use mathlib.Core.Path.{_≡_, refl, sym, ap, ap₂, subst, _∙_}
-use mathlib.Core.Bool.{Bool, true, false, cond, _&&_}
-use mathlib.Core.Logic.{_⊎_, inl, inr, ⊎-elim}
+use mathlib.Core.Path.{_≡_, refl, sym, ap, _∙_}
+use mathlib.Core.Bool.{true, false}
+use mathlib.Core.Logic.{⊎-elim}
 use mathlib.Core.List.{List, [], _∷_, _++_}
-use borrow.Author.Tests.{lt-ltb, le-ltb, ltb-true, eq-eqb, ne-eqb, eqb-true, eqb-false}
+use borrow.Author.Tests.{lt-ltb, eq-eqb, ne-eqb, eqb-true, eqb-false}
 use lib.Dec.{ltb, eqb}
-use lib.ListN.{length, take, drop, length-append, length-take, length-drop, take-append-drop}
-use lib.Seq.{take-add, take-all, take-length, length-take-le, drop-at, drop-drop, drop-append-le}
+use lib.ListN.{length, take, drop, length-append, length-take, length-drop}
+use lib.Seq.{take-add, length-take-le, drop-at, drop-drop, drop-append-le}
 use Rattle.utf8.specs.Lists.{all, takeWhile, join}
-use Rattle.utf8.specs.Chars.{charWidth, chars, isChar, valid, longestValidPrefix}
-use Rattle.utf8.proofs.Tests.{either, clash, and-left, and-right}
-use Rattle.utf8.proofs.Lists.{by-length}
+use Rattle.utf8.specs.Chars.{charWidth, isChar, valid, longestValidPrefix}
+use Rattle.utf8.proofs.Tests.{either, clash}
 use Rattle.utf8.proofs.Characters.{charWidth-le-length, charWidth-append, charWidth-take, charWidth-first, charWidth-front, chars-nil, chars-step, by-chars}
 
 -- The first element of `chars` is a character where one stands at the head.

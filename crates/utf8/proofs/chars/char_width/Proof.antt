@@ -1,15 +1,12 @@
 -- `utf8::chars::char_width` meets its contract: each arm of its `match` is a form of the table, by the form's first range.
 -- Assumes nothing.
 use Prim.Native.Nat.{ℕ, _<_}
-use mathlib.Core.Path.{_≡_, refl, sym, _∙_}
-use mathlib.Core.Bool.{true, cond}
-use mathlib.Core.List.{List, []}
+use mathlib.Core.Path.{refl, sym, _∙_}
+use mathlib.Core.List.{List}
 use native.Mathlib.Omega.{arith}
-use lib.ListN.{length, drop, getD}
-use Rattle.utf8.specs.Lists.{within}
-use Rattle.utf8.specs.Chars.{charForms, hasForm, charWidth}
+use lib.ListN.{length, getD}
+use Rattle.utf8.specs.Chars.{charForms}
 use Rattle.utf8.proofs.Tests.{within-in}
-use Rattle.utf8.proofs.Forms.{firstOf}
 use Rattle.utf8.proofs.Characters.{charWidth-le-length, charWidth-lead, charWidth-apart}
 use borrow.Author.Needs.{needs}
 use Rattle.utf8.proofs.chars.char_width.Statement.{statement}
