@@ -1,6 +1,6 @@
 -- Laws of White_Space at the ends of a text. Assumes nothing.
 use Prim.Native.Nat.{ℕ, zero, suc, _+_, _-_, _≤_, _<_, max, zero-le}
-use native.Mathlib.Nat.{not-suc-le-zero}
+use native.Mathlib.Nat.{not-suc-le-zero, sub-self}
 use native.Mathlib.Omega.{arith}
 use mathlib.Core.Path.{_≡_, refl, sym, ap, _∙_}
 use mathlib.Core.Bool.{Bool, true, false, cond, _&&_}
@@ -9,10 +9,11 @@ use mathlib.Core.List.{List, [], _∷_, reverse, reverse-append, reverse-reverse
 use borrow.Author.Tests.{lt-ltb}
 use lib.Dec.{ltb}
 use lib.ListN.{length, take, drop, length-append, length-drop, drop-of-length-le}
-use lib.Seq.{length-take-le, take-all, take-take, take-at, drop-drop, drop-nil}
+use lib.Seq.{length-take-le, take-length, take-all, take-take, take-at, drop-drop, drop-nil}
 use Rattle.utf8.specs.Lists.{dropWhile, lastOr, join}
 use Rattle.utf8.specs.Chars.{charWidth, chars, isChar, lastWidth, codePoint}
 use Rattle.utf8.specs.WhiteSpace.{isWhiteSpace, isWhite, whiteWidth, whiteEnd, trimStart, trimEnd}
+use Rattle.utf8.proofs.Lists.{by-length}
 use Rattle.utf8.proofs.Characters.{charWidth-nil, charWidth-le-length, charWidth-take, chars-nil, chars-step, join-chars}
 use Rattle.utf8.proofs.Last.{Last, first-sort, last-of, lastOr-last, last-place, last-fits}
 
@@ -202,3 +203,66 @@ whiteEnd-by-width (b ∷ u) = go (last-of (b ∷ u) (omega arith))
             none ∙ sym (ap whiteWidth (drop-of-length-le t {i = length t - lastWidth t} (omega (arith, width))) ∙ whiteWidth-nil)
         sorted (inr e) =
             ap whiteWidth (sym (last-place t r)) ∙ ap (λ (n : ℕ). whiteWidth (drop (length t - n) t)) (sym (width ∙ e))
+
+-- What is left starts with no White_Space, and is the end of the text.
+pub record TrimmedStart (t l : List ℕ) : Type 0 where
+  pub short : length l ≤ length t
+  pub part : l ≡ drop (length t - length l) t
+  pub clear : whiteWidth l ≡ 0
+
+pub trimStart-trimmed : (t : List ℕ) → TrimmedStart t (trimStart t)
+trimStart-trimmed = by-length (λ (t : List ℕ). TrimmedStart t (trimStart t)) turn
+  where
+    turn : (t : List ℕ) → ((u : List ℕ) → length u < length t → TrimmedStart u (trimStart u)) → TrimmedStart t (trimStart t)
+    turn t ih = go (whiteWidth t) refl
+      where
+        go : (w : ℕ) → whiteWidth t ≡ w → TrimmedStart t (trimStart t)
+        go zero e = rw (trimStart-stops t e) (record {
+          short = omega arith;
+          part = ap (λ (n : ℕ). drop n t) (sym (sub-self (length t)));
+          clear = e;
+        })
+        go (suc w) e =
+            let n = whiteWidth t in
+            let u = drop n t in
+            let left = length-drop n t in
+            let fits : n ≤ length t = omega (arith, whiteWidth-le t, charWidth-le-length t) in
+            let r = ih u (omega arith) in
+            let x = trimStart u in
+            let same : n + (length u - length x) ≡ length t - length x = omega (arith, r .short) in
+            rw (trimStart-step t (omega arith)) (record {
+              short = omega (arith, r .short);
+              part = r .part ∙ drop-drop (length u - length x) n t ∙ ap (λ (k : ℕ). drop k t) same;
+              clear = r .clear;
+            })
+
+-- What is left ends with no White_Space, and is the front of the text.
+pub record TrimmedEnd (t l : List ℕ) : Type 0 where
+  pub short : length l ≤ length t
+  pub part : l ≡ take (length l) t
+  pub clear : whiteEnd l ≡ 0
+
+pub trimEnd-trimmed : (t : List ℕ) → TrimmedEnd t (trimEnd t)
+trimEnd-trimmed = by-length (λ (t : List ℕ). TrimmedEnd t (trimEnd t)) turn
+  where
+    turn : (t : List ℕ) → ((u : List ℕ) → length u < length t → TrimmedEnd u (trimEnd u)) → TrimmedEnd t (trimEnd t)
+    turn t ih = go (whiteEnd t) refl
+      where
+        go : (w : ℕ) → whiteEnd t ≡ w → TrimmedEnd t (trimEnd t)
+        go zero e = rw (trimEnd-stops t e) (record {
+          short = omega arith;
+          part = sym (take-length t);
+          clear = e;
+        })
+        go (suc w) e =
+            let n = length t - whiteEnd t in
+            let u = take n t in
+            let fits = whiteEnd-le t in
+            let left : length u ≡ n = length-take-le n t (omega arith) in
+            let r = ih u (omega arith) in
+            let x = trimEnd u in
+            rw (trimEnd-step t (omega arith)) (record {
+              short = omega (arith, r .short);
+              part = r .part ∙ take-take (length x) n t (omega (arith, r .short));
+              clear = r .clear;
+            })
