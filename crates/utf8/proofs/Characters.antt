@@ -4,17 +4,17 @@ use Prim.Native.Nat.{ℕ, zero, suc, _+_, _*_, _-_, _≤_, _<_, max}
 use native.Mathlib.Nat.{not-suc-le-zero}
 use native.Mathlib.Omega.{arith}
 use mathlib.Core.Path.{_≡_, refl, sym, ap, ap₂, _∙_}
-use mathlib.Core.Bool.{Bool, true, false, cond, _&&_}
+use mathlib.Core.Bool.{Bool, true, false, cond}
 use mathlib.Core.Logic.{⊎-elim}
-use mathlib.Core.List.{List, [], _∷_, _++_, append-nil}
+use mathlib.Core.List.{List, [], _∷_, _++_, map, append-nil}
 use lib.ListN.{length, take, drop, getD, length-drop, take-append-drop}
-use lib.Seq.{take-at, drop-at}
+use lib.Seq.{take-at, drop-at, drop-drop}
 use Rattle.utf8.specs.Lists.{Range, within, all, join}
 use Rattle.utf8.specs.Chars.{tail, charForms, hasForm, charWidth, chars, codePoint}
-use Rattle.utf8.proofs.Tests.{either, clash, and-both, and-left}
+use Rattle.utf8.proofs.Tests.{either, and-left, and-right, and-both, within-in}
 use Rattle.utf8.proofs.Lists.{by-length}
 use Rattle.utf8.proofs.Cut.{cutBy-step, cutBy-append, join-cutBy}
-use Rattle.utf8.proofs.Forms.{firstOf, apart, beginsApart, widthAmong-le-length, widthAmong-le, widthAmong-take, widthAmong-append, widthAmong-lead, widthAmong-apart, widthAmong-keeps, widthAmong-inside, Bounds, widthAmong-bounds}
+use Rattle.utf8.proofs.Forms.{firstOf, beginsApart, widthAmong-le-length, widthAmong-le, widthAmong-take, widthAmong-append, widthAmong-lead, widthAmong-apart, widthAmong-keeps, widthAmong-inside, Bounds, widthAmong-bounds}
 
 pub charWidth-nil : charWidth [] ≡ 0
 unfolding charWidth charForms
@@ -39,18 +39,20 @@ unfolding charWidth charForms
 charWidth-append p r h = widthAmong-append charForms refl p r h
 
 -- The first byte tells which form a character can have.
-pub charWidth-lead : (k : ℕ) (t : List ℕ) → 0 < length t → within (firstOf (getD charForms k [])) (getD t 0 0) ≡ true
+pub charWidth-lead : (k : ℕ) (t : List ℕ) → 0 < length t
+    → firstOf (getD charForms k []) .0 ≤ getD t 0 0
+    → getD t 0 0 ≤ firstOf (getD charForms k []) .1
     → charWidth t ≡ cond (hasForm (drop 1 (getD charForms k [])) (drop 1 t)) (length (getD charForms k [])) 0
 unfolding charWidth charForms
-charWidth-lead k [] pos h = absurd (not-suc-le-zero pos)
-charWidth-lead k (b ∷ t) pos h = widthAmong-lead charForms refl k b t h
+charWidth-lead k [] pos low high = absurd (not-suc-le-zero pos)
+charWidth-lead k (b ∷ t) pos low high = widthAmong-lead charForms refl k b t (within-in (firstOf (getD charForms k [])) b low high)
 
 -- A byte that no form begins with begins no character.
 pub charWidth-apart : (range : Range) → all (beginsApart range) charForms ≡ true
-    → (t : List ℕ) → 0 < length t → within range (getD t 0 0) ≡ true → charWidth t ≡ 0
+    → (t : List ℕ) → 0 < length t → range .0 ≤ getD t 0 0 → getD t 0 0 ≤ range .1 → charWidth t ≡ 0
 unfolding charWidth
-charWidth-apart range e [] pos h = absurd (not-suc-le-zero pos)
-charWidth-apart range e (b ∷ t) pos h = widthAmong-apart range charForms e b t h
+charWidth-apart range e [] pos low high = absurd (not-suc-le-zero pos)
+charWidth-apart range e (b ∷ t) pos low high = widthAmong-apart range charForms e b t (within-in range b low high)
 
 -- A character's width tells the bounds of its bytes.
 module _ (t : List ℕ) where
@@ -92,6 +94,28 @@ join-chars t = join-cutBy charWidth t
 pub chars-step : (t : List ℕ) → 0 < length t → chars t ≡ take (max 1 (charWidth t)) t ∷ chars (drop (max 1 (charWidth t)) t)
 unfolding chars
 chars-step t h = cutBy-step charWidth t h
+
+-- The same at a place within a text.
+pub chars-next : (s : List ℕ) (i : ℕ) → i < length s
+    → chars (drop i s)
+    ≡ take (max 1 (charWidth (drop i s))) (drop i s) ∷ chars (drop (i + max 1 (charWidth (drop i s))) s)
+chars-next s i h =
+    chars-step (drop i s) (omega (arith, length-drop i s))
+    ∙ ap (λ (l : List ℕ). take (max 1 (charWidth (drop i s))) (drop i s) ∷ chars l) (drop-drop (max 1 (charWidth (drop i s))) i s)
+
+-- A byte that begins no character stands alone.
+pub chars-stray : (b : ℕ) (t : List ℕ) → charWidth (b ∷ t) ≡ 0 → chars (b ∷ t) ≡ (b ∷ []) ∷ chars t
+chars-stray b t h =
+    let one : max 1 (charWidth (b ∷ t)) ≡ 1 = omega arith in
+    chars-step (b ∷ t) (omega arith) ∙ ap (λ (n : ℕ). take n (b ∷ t) ∷ chars (drop n (b ∷ t))) one
+
+-- UTF8-tails at the head are strays.
+pub chars-tails : (bs t : List ℕ) → all (within tail) bs ≡ true → chars (bs ++ t) ≡ map (λ (b : ℕ). b ∷ []) bs ++ chars t
+chars-tails [] t e = refl
+chars-tails (b ∷ bs) t e =
+    let here = and-both (and-left (within tail b) (all (within tail) bs) e) refl in
+    chars-stray b (bs ++ t) (charWidth-tail (b ∷ bs ++ t) here)
+    ∙ ap {B = List (List ℕ)} (λ cs. (b ∷ []) ∷ cs) (chars-tails bs t (and-right (within tail b) (all (within tail) bs) e))
 
 -- A text can be cut before what starts in no UTF8-tail.
 pub chars-append : (q r : List ℕ) → startsInTail r ≡ false → chars (q ++ r) ≡ chars q ++ chars r

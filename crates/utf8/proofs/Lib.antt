@@ -7,3 +7,5 @@ pub mod Forms
 pub mod Tails
 pub mod Characters
 pub mod Valid
+pub mod Last
+pub mod Trim

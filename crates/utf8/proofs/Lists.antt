@@ -1,12 +1,15 @@
 -- Laws on the words of `specs/Lists`. Assumes nothing.
-use Prim.Native.Nat.{ℕ, zero, suc, _-_, _≤_, _<_}
+use Prim.Native.Nat.{ℕ, zero, suc, _+_, _-_, _<_}
 use native.Mathlib.Nat.{not-suc-le-zero}
 use native.Mathlib.Omega.{arith}
+use native.Mathlib.Numerals.{add-one}
 use mathlib.Core.Path.{_≡_, refl, sym, ap, _∙_}
+use mathlib.Core.Bool.{Bool, true, cond, _&&_, _||_, and-assoc}
 use mathlib.Core.List.{List, [], _∷_, _++_, append-assoc}
-use lib.ListN.{length, take, drop, length-drop}
-use lib.Seq.{take-all}
-use Rattle.utf8.specs.Lists.{join}
+use lib.ListN.{length, take, drop, getD, length-drop}
+use lib.Seq.{take-all, drop-cons}
+use Rattle.utf8.specs.Lists.{all, any, takeWhile, lastOr, join}
+use Rattle.utf8.proofs.Tests.{and-left, and-right}
 
 module _ {ℓ} {A : Type ℓ} where
   -- What holds of a list where it holds of every shorter one holds of all.
@@ -24,3 +27,22 @@ module _ {ℓ} {A : Type ℓ} where
   -- The part of a list from a place to its end.
   pub part-to-end : (l : List A) (i : ℕ) → take (length l - i) (drop i l) ≡ drop i l
   part-to-end l i = take-all (length l - i) (drop i l) (omega (arith, length-drop i l))
+
+  pub any-from : (test : A → Bool) (xs : List A) (i : ℕ) (d : A) → i < length xs → any test (drop i xs) ≡ (test (getD xs i d) || any test (drop (i + 1) xs))
+  any-from test xs i d h = rw (drop-cons xs i d h, add-one i)
+
+  pub lastOr-append : (d c : A) (xs : List A) → lastOr d (xs ++ (c ∷ [])) ≡ c
+  lastOr-append d c [] = refl
+  lastOr-append d c (x ∷ xs) = lastOr-append x c xs
+
+  pub all-append : (test : A → Bool) (xs ys : List A) → all test (xs ++ ys) ≡ (all test xs && all test ys)
+  all-append test [] ys = refl
+  all-append test (x ∷ xs) ys =
+      ap (λ (b : Bool). test x && b) (all-append test xs ys) ∙ sym (and-assoc (test x) (all test xs) (all test ys))
+
+  -- Where all pass, the front that passes goes on in what follows.
+  pub takeWhile-append : (test : A → Bool) (xs ys : List A) → all test xs ≡ true → takeWhile test (xs ++ ys) ≡ xs ++ takeWhile test ys
+  takeWhile-append test [] ys e = refl
+  takeWhile-append test (x ∷ xs) ys e =
+      ap (λ (b : Bool). cond b (x ∷ takeWhile test (xs ++ ys)) []) (and-left (test x) (all test xs) e)
+      ∙ ap {B = List A} (λ l. x ∷ l) (takeWhile-append test xs ys (and-right (test x) (all test xs) e))

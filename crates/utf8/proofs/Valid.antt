@@ -1,20 +1,19 @@
 -- Laws of valid texts: the longest valid prefix is a prefix, it is valid, and no longer one is. Assumes nothing.
-use Prim.Native.Nat.{ℕ, zero, suc, _+_, _-_, _≤_, _<_, zero-le, max}
-use native.Mathlib.Nat.{not-suc-le-zero}
+use Prim.Native.Nat.{ℕ, zero, suc, _+_, _-_, _≤_, _<_, max}
 use native.Mathlib.Omega.{arith}
-use mathlib.Core.Path.{_≡_, refl, sym, ap, ap₂, subst, _∙_}
-use mathlib.Core.Bool.{Bool, true, false, cond, _&&_}
-use mathlib.Core.Logic.{_⊎_, inl, inr, ⊎-elim}
+use mathlib.Core.Path.{_≡_, refl, sym, ap, ap₂, _∙_}
+use mathlib.Core.Bool.{Bool, true, false, _&&_}
+use mathlib.Core.Logic.{⊎-elim}
 use mathlib.Core.List.{List, [], _∷_, _++_}
-use borrow.Author.Tests.{lt-ltb, le-ltb, ltb-true, eq-eqb, ne-eqb, eqb-true, eqb-false}
+use borrow.Author.Tests.{lt-ltb, eq-eqb, ne-eqb, eqb-true, eqb-false}
 use lib.Dec.{ltb, eqb}
-use lib.ListN.{length, take, drop, length-append, length-take, length-drop, take-append-drop}
-use lib.Seq.{take-add, take-all, take-length, length-take-le, drop-at, drop-drop, drop-append-le}
+use lib.ListN.{length, take, drop, length-append, length-take, length-drop}
+use lib.Seq.{take-add, length-take-le, drop-at, drop-drop, take-append-le, drop-append-le}
 use Rattle.utf8.specs.Lists.{all, takeWhile, join}
 use Rattle.utf8.specs.Chars.{charWidth, chars, isChar, valid, longestValidPrefix}
-use Rattle.utf8.proofs.Tests.{either, clash, and-left, and-right}
-use Rattle.utf8.proofs.Lists.{by-length}
-use Rattle.utf8.proofs.Characters.{charWidth-le-length, charWidth-append, charWidth-take, charWidth-first, charWidth-front, chars-nil, chars-step, by-chars}
+use Rattle.utf8.proofs.Tests.{either, clash}
+use Rattle.utf8.proofs.Lists.{join-append, all-append, takeWhile-append}
+use Rattle.utf8.proofs.Characters.{charWidth-le-length, charWidth-append, charWidth-take, charWidth-first, charWidth-front, chars-nil, chars-step, chars-append, join-chars, startsInTail, by-chars}
 
 -- The first element of `chars` is a character where one stands at the head.
 first-isChar : (t : List ℕ) → isChar (take (max 1 (charWidth t)) t) ≡ ltb 0 (charWidth t)
@@ -112,14 +111,6 @@ longest-is-prefix = by-chars (λ (t : List ℕ). longestValidPrefix t ≡ take (
         ∙ sym (take-add (charWidth t) (length (longestValidPrefix (drop (charWidth t) t))) t)
         ∙ ap (λ (n : ℕ). take n t) (sym (prefix-length t h))
 
--- A valid text before another leaves it its characters.
-pub valid-append : (p r : List ℕ) → 0 < charWidth p → valid (p ++ r) ≡ valid (drop (charWidth p) p ++ r)
-valid-append p r h =
-    let same = charWidth-append p r h in
-    valid-step (p ++ r) (omega arith)
-    ∙ ap (λ (n : ℕ). valid (drop n (p ++ r))) same
-    ∙ ap valid (drop-append-le (charWidth p) p r (charWidth-le-length p))
-
 pub longest-is-valid : (t : List ℕ) → valid (longestValidPrefix t) ≡ true
 longest-is-valid = by-chars (λ (t : List ℕ). valid (longestValidPrefix t) ≡ true) stop step
   where
@@ -182,3 +173,61 @@ longest-is-longest = by-chars (λ (t : List ℕ). (n : ℕ) → valid (take n t)
             ∙ sym (valid-step (take n t) here)
             ∙ v in
             omega (arith, ih (n - w) rest, prefix-length t h, ap length parts, length-append (take w t) (take (n - w) (drop w t)))
+
+-- What follows the longest valid prefix begins with no character.
+pub longest-stops : (t : List ℕ) → charWidth (drop (length (longestValidPrefix t)) t) ≡ 0
+longest-stops = by-chars (λ (t : List ℕ). charWidth (drop (length (longestValidPrefix t)) t) ≡ 0) stop step
+  where
+    stop : (t : List ℕ) → charWidth t ≡ 0 → charWidth (drop (length (longestValidPrefix t)) t) ≡ 0
+    stop t h = ap (λ (l : List ℕ). charWidth (drop (length l) t)) (prefix-stops t h) ∙ h
+
+    step : (t : List ℕ) → 0 < charWidth t
+        → charWidth (drop (length (longestValidPrefix (drop (charWidth t) t))) (drop (charWidth t) t)) ≡ 0
+        → charWidth (drop (length (longestValidPrefix t)) t) ≡ 0
+    step t h ih =
+        ap (λ (n : ℕ). charWidth (drop n t)) (prefix-length t h)
+        ∙ ap charWidth (sym (drop-drop (length (longestValidPrefix (drop (charWidth t) t))) (charWidth t) t))
+        ∙ ih
+
+-- After a valid text another begins anew.
+pub chars-valid-append : (p r : List ℕ) → valid p ≡ true → chars (p ++ r) ≡ chars p ++ chars r
+chars-valid-append p r = by-chars (λ (p : List ℕ). valid p ≡ true → chars (p ++ r) ≡ chars p ++ chars r) stop step p
+  where
+    stop : (p : List ℕ) → charWidth p ≡ 0 → valid p ≡ true → chars (p ++ r) ≡ chars p ++ chars r
+    stop [] h v = ap (λ (cs : List (List ℕ)). cs ++ chars r) (sym chars-nil)
+    stop (b ∷ p) h v = clash (valid-stops (b ∷ p) (omega arith) h) v
+
+    step : (p : List ℕ) → 0 < charWidth p
+        → (valid (drop (charWidth p) p) ≡ true → chars (drop (charWidth p) p ++ r) ≡ chars (drop (charWidth p) p) ++ chars r)
+        → valid p ≡ true → chars (p ++ r) ≡ chars p ++ chars r
+    step p h ih v =
+        let w = charWidth p in
+        let fits = charWidth-le-length p in
+        let here : max 1 w ≡ w = omega arith in
+        let there : max 1 (charWidth (p ++ r)) ≡ w = omega (arith, charWidth-append p r h) in
+        chars-step (p ++ r) (omega (arith, length-append p r))
+        ∙ ap (λ (n : ℕ). take n (p ++ r) ∷ chars (drop n (p ++ r))) there
+        ∙ ap₂ {C = List (List ℕ)} _∷_ (take-append-le w p r fits) (ap chars (drop-append-le w p r fits) ∙ ih (sym (valid-step p h) ∙ v))
+        ∙ ap {B = List (List ℕ)} (λ cs. cs ++ chars r)
+        (ap (λ (n : ℕ). take n p ∷ chars (drop n p)) (sym here) ∙ sym (chars-step p (omega arith)))
+
+module _ (p r : List ℕ) (v : valid p ≡ true) where
+  pub valid-append : valid (p ++ r) ≡ valid r
+  unfolding valid
+  valid-append =
+      ap (all isChar) (chars-valid-append p r v)
+      ∙ all-append isChar (chars p) (chars r)
+      ∙ ap (λ (b : Bool). b && all isChar (chars r)) v
+
+  pub prefix-append : longestValidPrefix (p ++ r) ≡ p ++ longestValidPrefix r
+  unfolding valid longestValidPrefix
+  prefix-append =
+      ap (λ (cs : List (List ℕ)). join (takeWhile isChar cs)) (chars-valid-append p r v)
+      ∙ ap join (takeWhile-append isChar (chars p) (chars r) v)
+      ∙ join-append (chars p) (takeWhile isChar (chars r))
+      ∙ ap (λ (l : List ℕ). l ++ join (takeWhile isChar (chars r))) (join-chars p)
+
+-- A text that is cut before no UTF8-tail is valid if both parts are.
+pub valid-cut : (q r : List ℕ) → startsInTail r ≡ false → valid (q ++ r) ≡ (valid q && valid r)
+unfolding valid
+valid-cut q r h = ap (all isChar) (chars-append q r h) ∙ all-append isChar (chars q) (chars r)

@@ -5,7 +5,7 @@ ghost use mathlib.Core.List.{_∷_};
 ghost use Prim.Native.Nat.{_+_, _*_, _-_, _≤_};
 ghost use lib.ListN.{length, take, drop, replicate};
 ghost use Rattle.utf8.specs.Lists.{within};
-ghost use Rattle.utf8.specs.Chars.{tail, hasForm, charWidth, valid, longestValidPrefix, codePoint};
+ghost use Rattle.utf8.specs.Chars.{tail, hasForm, charWidth, lastWidth, valid, longestValidPrefix, codePoint};
 
 fn is_within(b: u8, low: u8, high: u8) -> bool
     ensures { λ r. ⌜ r ≡ within (low, high) b ⌝ }
@@ -59,6 +59,24 @@ pub fn char_width(s: &[u8]) -> usize
     }
 }
 
+// The width of the character at the right end of s, 0 where none stands there: a character is at most four bytes wide.
+pub fn last_width(s: &[u8]) -> usize
+    ensures { λ r. ⌜ r ≡ lastWidth (now (s .entry)) ⌝ }
+{
+    let mut k = 1;
+    while k <= 4 {
+        if s.len() < k {
+            return 0;
+        }
+        let at = s.len() - k;
+        if char_width(&s[at..]) == k {
+            return k;
+        }
+        k += 1;
+    }
+    0
+}
+
 // How long the longest prefix of s that is valid UTF-8 is.
 pub fn valid_prefix(s: &[u8]) -> usize
     ensures { λ r. ⌜ r ≡ length (longestValidPrefix (now (s .entry))) ⌝ }
@@ -81,11 +99,11 @@ pub fn is_valid(s: &[u8]) -> bool
 }
 
 // A character's bits so far, and those of the next UTF8-tail.
-fn joined(number: u32, tail: u8) -> u32
-    requires { ⌜ (number ≤ 0xFFFF) × (0x80 ≤ tail) ⌝ }
-    ensures { λ r. ⌜ r ≡ number * 64 + (tail - 0x80) ⌝ }
+fn joined(number: u32, b: u8) -> u32
+    requires { ⌜ (number ≤ 0xFFFF) × (0x80 ≤ b) ⌝ }
+    ensures { λ r. ⌜ r ≡ number * 64 + (b - 0x80) ⌝ }
 {
-    number * 64 + (tail as u32 - 0x80)
+    number * 64 + (b as u32 - 0x80)
 }
 
 // The number of the character at the head of s, whose width is w.

@@ -1,2 +1,3 @@
 // UTF-8 by RFC 3629, and Unicode's White_Space.
 pub mod chars;
+pub mod white_space;

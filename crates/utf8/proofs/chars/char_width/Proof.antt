@@ -1,15 +1,11 @@
 -- `utf8::chars::char_width` meets its contract: each arm of its `match` is a form of the table, by the form's first range.
 -- Assumes nothing.
 use Prim.Native.Nat.{ℕ, _<_}
-use mathlib.Core.Path.{_≡_, refl, sym, _∙_}
-use mathlib.Core.Bool.{true, cond}
-use mathlib.Core.List.{List, []}
+use mathlib.Core.Path.{refl, sym, _∙_}
+use mathlib.Core.List.{List}
 use native.Mathlib.Omega.{arith}
-use lib.ListN.{length, drop, getD}
-use Rattle.utf8.specs.Lists.{within}
-use Rattle.utf8.specs.Chars.{charForms, hasForm, charWidth}
-use Rattle.utf8.proofs.Tests.{within-in}
-use Rattle.utf8.proofs.Forms.{firstOf}
+use lib.ListN.{length}
+use Rattle.utf8.specs.Chars.{charForms}
 use Rattle.utf8.proofs.Characters.{charWidth-le-length, charWidth-lead, charWidth-apart}
 use borrow.Author.Needs.{needs}
 use Rattle.utf8.proofs.chars.char_width.Statement.{statement}
@@ -56,68 +52,68 @@ returns-2 : tie.Need-returns-2
 unfolding charForms
 returns-2 c =
     let at = c .before .before in
-    c .width-if .ensures ∙ sym (charWidth-lead 2 (Text at) (some at) (within-in (0xE0, 0xE0) (getD (Text at) 0 0) (omega (arith, c .before .match .keys1)) (omega (arith, c .before .match .keys1))))
+    c .width-if .ensures ∙ sym (charWidth-lead 2 (Text at) (some at) (omega arith) (omega arith))
 
 returns-3 : tie.Need-returns-3
 unfolding charForms
 returns-3 c =
     let at = c .before .before in
-    c .width-if2 .ensures ∙ sym (charWidth-lead 4 (Text at) (some at) (within-in (0xED, 0xED) (getD (Text at) 0 0) (omega (arith, c .before .match .keys2)) (omega (arith, c .before .match .keys2))))
+    c .width-if2 .ensures ∙ sym (charWidth-lead 4 (Text at) (some at) (omega arith) (omega arith))
 
 returns-4 : tie.Need-returns-4
 unfolding charForms
 returns-4 c =
     let at = c .before .before in
-    c .width-if3 .ensures ∙ sym (charWidth-lead 6 (Text at) (some at) (within-in (0xF0, 0xF0) (getD (Text at) 0 0) (omega (arith, c .before .match .keys3)) (omega (arith, c .before .match .keys3))))
+    c .width-if3 .ensures ∙ sym (charWidth-lead 6 (Text at) (some at) (omega arith) (omega arith))
 
 returns-5 : tie.Need-returns-5
 unfolding charForms
 returns-5 c =
     let at = c .before .before in
-    c .width-if4 .ensures ∙ sym (charWidth-lead 8 (Text at) (some at) (within-in (0xF4, 0xF4) (getD (Text at) 0 0) (omega (arith, c .before .match .keys4)) (omega (arith, c .before .match .keys4))))
+    c .width-if4 .ensures ∙ sym (charWidth-lead 8 (Text at) (some at) (omega arith) (omega arith))
 
 returns-6 : tie.Need-returns-6
 unfolding charForms
 returns-6 c =
     let at = c .before .before in
-    sym (charWidth-lead 0 (Text at) (some at) (within-in (0, 0x7F) (getD (Text at) 0 0) (omega arith) (omega arith)))
+    sym (charWidth-lead 0 (Text at) (some at) (omega arith) (omega arith))
 
 returns-7 : tie.Need-returns-7
 unfolding charForms
 returns-7 c =
     let at = c .before .before .before .before .before in
-    c .width-if5 .ensures ∙ sym (charWidth-lead 1 (Text at) (some at) (within-in (0xC2, 0xDF) (getD (Text at) 0 0) (omega arith) (omega arith)))
+    c .width-if5 .ensures ∙ sym (charWidth-lead 1 (Text at) (some at) (omega arith) (omega arith))
 
 returns-8 : tie.Need-returns-8
 unfolding charForms
 returns-8 c =
     let at = c .before .before .before .before .before .before in
-    c .width-if6 .ensures ∙ sym (charWidth-lead 3 (Text at) (some at) (within-in (0xE1, 0xEC) (getD (Text at) 0 0) (omega arith) (omega arith)))
+    c .width-if6 .ensures ∙ sym (charWidth-lead 3 (Text at) (some at) (omega arith) (omega arith))
 
 returns-9 : tie.Need-returns-9
 unfolding charForms
 returns-9 c =
     let at = c .before .before .before .before .before .before .before in
-    c .width-if7 .ensures ∙ sym (charWidth-lead 5 (Text at) (some at) (within-in (0xEE, 0xEF) (getD (Text at) 0 0) (omega arith) (omega arith)))
+    c .width-if7 .ensures ∙ sym (charWidth-lead 5 (Text at) (some at) (omega arith) (omega arith))
 
 returns-10 : tie.Need-returns-10
 unfolding charForms
 returns-10 c =
     let at = c .before .before .before .before .before .before .before .before in
-    c .width-if8 .ensures ∙ sym (charWidth-lead 7 (Text at) (some at) (within-in (0xF1, 0xF3) (getD (Text at) 0 0) (omega arith) (omega arith)))
+    c .width-if8 .ensures ∙ sym (charWidth-lead 7 (Text at) (some at) (omega arith) (omega arith))
 
 returns-11 : tie.Need-returns-11
 unfolding charForms
 returns-11 c =
     let at = c .before .before .before in
-    sym (charWidth-apart (0x80, 0xC1) refl (Text at) (some at) (within-in (0x80, 0xC1) (getD (Text at) 0 0) (omega arith) (omega arith)))
+    sym (charWidth-apart (0x80, 0xC1) refl (Text at) (some at) (omega arith) (omega arith))
 
 returns-12 : tie.Need-returns-12
 unfolding charForms
 returns-12 c =
     let at = c .before .before .before .before .before .before .before in
     let byte = at .shared-slice-known2 .given 0 in
-    sym (charWidth-apart (0xF5, 0xFF) refl (Text at) (some at) (within-in (0xF5, 0xFF) (getD (Text at) 0 0) (omega arith) (omega arith)))
+    sym (charWidth-apart (0xF5, 0xFF) refl (Text at) (some at) (omega arith) (omega arith))
 
 pub char-width-spec : {M : Type 1} → statement M
 char-width-spec =

@@ -1,6 +1,4 @@
-use Prim.Native.Nat.{ℕ}
 use mathlib.Core.Path.{sym}
-use mathlib.Core.Bool.{true-and}
 use borrow.Author.Tests.{le-leb}
 use Rattle.utf8.proofs.Tests.{within-below}
 use Rattle.utf8.proofs.chars.is_within.Statement.{statement}

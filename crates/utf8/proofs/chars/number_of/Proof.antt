@@ -1,9 +1,9 @@
 -- `utf8::chars::number_of` meets its contract: a character's width tells the bounds of its bytes. Assumes nothing.
 use Prim.Native.Nat.{ℕ, _+_, _*_, _-_}
-use mathlib.Core.Path.{_≡_, refl, sym, ap, _∙_}
-use mathlib.Core.List.{List, [], _∷_}
+use mathlib.Core.Path.{_≡_, sym, ap, _∙_}
+use mathlib.Core.List.{[], _∷_}
 use native.Mathlib.Omega.{arith}
-use lib.ListN.{length, take, getD}
+use lib.ListN.{take, getD}
 use Rattle.utf8.specs.Chars.{tail, charWidth, codePoint}
 use Rattle.utf8.proofs.Forms.{Bounds}
 use Rattle.utf8.proofs.Characters.{charWidth-le-length, charWidth-le-four, two-bytes, three-bytes, four-bytes, codePoint-one, codePoint-two, codePoint-three, codePoint-four}

@@ -1,7 +1,7 @@
 -- `utf8::chars::valid_prefix` meets its contract. The loop's invariant: the prefix is what was passed, and the longest valid prefix of the rest.
 -- Assumes nothing.
 use Prim.Native.Nat.{ℕ, _≤_, _-_, _+_}
-use mathlib.Core.Path.{_≡_, refl, sym, ap, _∙_}
+use mathlib.Core.Path.{_≡_, sym, ap, _∙_}
 use native.Mathlib.Omega.{arith}
 use borrow.Author.Needs.{needs}
 use mathlib.Core.List.{List}

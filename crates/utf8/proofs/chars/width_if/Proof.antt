@@ -1,14 +1,13 @@
 -- `utf8::chars::width_if` meets its contract. The loop's invariant: the bytes have the form if what is left from i on are UTF8-tails.
 -- Assumes nothing.
-use Prim.Native.Nat.{ℕ, zero, _≤_, _-_, _+_}
-use mathlib.Core.Path.{_≡_, refl, sym, ap, _∙_}
-use mathlib.Core.Bool.{Bool, true, false, cond, _&&_}
+use Prim.Native.Nat.{ℕ, _≤_, _-_}
+use mathlib.Core.Path.{_≡_, sym, ap, _∙_}
+use mathlib.Core.Bool.{Bool, cond}
 use mathlib.Core.List.{_∷_}
 use native.Mathlib.Omega.{arith}
 use borrow.Author.Needs.{needs}
 use borrow.Author.Tests.{not-true, not-false}
-use lib.ListN.{length, drop, getD, replicate}
-use Rattle.utf8.specs.Lists.{within}
+use lib.ListN.{length, drop, replicate}
 use Rattle.utf8.specs.Chars.{tail, hasForm}
 use Rattle.utf8.proofs.Tails.{too-short, second-byte, next-tail}
 use Rattle.utf8.proofs.chars.width_if.Statement.{statement}
