@@ -58,6 +58,9 @@ pub record TokenList : Type 0 where
   pub lstrip : List Bool
   pub rstrip : List Bool
 
+abbrev pub tokenList : List ℕ → List ℕ → List ℕ → List Bool → List Bool → TokenList
+tokenList bytes offsets ids lstrip rstrip = record { bytes = bytes; offsets = offsets; ids = ids; lstrip = lstrip; rstrip = rstrip }
+
 -- What the tokens of a list are found by, in the order of its rows.
 unfoldable pub contents : TokenList → List (List ℕ)
 contents t = strings (t .bytes) (t .offsets)
@@ -100,6 +103,26 @@ pub record Model : Type 0 where
   pub steps : List Step
   pub stepCount : ℕ
   pub metaspace : Metaspace
+
+-- The model of lent columns, in the order in which every call takes them.
+abbrev pub modelOf : List ℕ → List ℕ → List ℕ → List ℕ → List ℕ → List ℕ → List ℕ → List ℕ → TokenList → TokenList → List ℕ → List Step → ℕ → Metaspace → Model
+modelOf pieceBytes pieceOffsets lookup fallback left right result rank first second stepBytes steps stepCount metaspace =
+    record {
+      pieceBytes = pieceBytes;
+      pieceOffsets = pieceOffsets;
+      lookup = lookup;
+      fallback = fallback;
+      left = left;
+      right = right;
+      result = result;
+      rank = rank;
+      first = first;
+      second = second;
+      stepBytes = stepBytes;
+      steps = steps;
+      stepCount = stepCount;
+      metaspace = metaspace;
+    }
 
 unfoldable pub piecesOf : Model → List (List ℕ)
 piecesOf m = strings (m .pieceBytes) (m .pieceOffsets)

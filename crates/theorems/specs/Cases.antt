@@ -87,7 +87,7 @@ sameLent a b = same (a .out) (b .out) && same (a .scratchA) (b .scratchA) && sam
 
 unfoldable pub agrees : Case → Bool
 unfolding Chars.charForms Chars.charWidth Chars.chars Chars.isChar Chars.valid Chars.longestValidPrefix Chars.codePoint
-    WhiteSpace.whiteSpace WhiteSpace.isWhite WhiteSpace.trimStart WhiteSpace.trimEnd
+    WhiteSpace.whiteSpace WhiteSpace.isWhiteSpace WhiteSpace.isWhite WhiteSpace.trimStart WhiteSpace.trimEnd
     Model.strings Model.piece Model.lookupId Model.fallbackId Model.rowsOf Model.rowOf Model.contents Model.tokenAt Model.stepString Model.spansOf Model.piecesOf Model.mergeRows Model.stepsOf
     Mark.mark Mark.space Mark.markWidth Mark.startsWithMark Mark.endsWithMark
     Answers.done Answers.refused Answers.placeOf Answers.filled Answers.scratchAfter Answers.outcome Answers.withScratch

@@ -27,7 +27,7 @@ isWhiteSpace code = any (λ (range : Range). within range code) whiteSpace
 
 -- A character that is White_Space; a stray byte never is.
 unfoldable pub isWhite : List ℕ → Bool
-isWhite c = isChar c && any (λ (range : Range). within range (codePoint c)) whiteSpace
+isWhite c = isChar c && isWhiteSpace (codePoint c)
 
 -- The text without the White_Space at its left end.
 unfoldable pub trimStart : List ℕ → List ℕ

@@ -107,7 +107,7 @@ fn joined(number: u32, b: u8) -> u32
 }
 
 // The number of the character at the head of s, whose width is w.
-pub fn number_of(s: &[u8], w: usize) -> u32
+pub(crate) fn number_of(s: &[u8], w: usize) -> u32
     requires { ⌜ w ≡ charWidth (now s) ⌝ }
     ensures { λ r. ⌜ r ≡ codePoint (take w (now (s .entry))) ⌝ }
 {
