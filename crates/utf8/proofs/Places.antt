@@ -6,9 +6,11 @@ use Prim.Native.Nat.{ℕ, zero, suc, _+_, _-_, _≤_, _<_, min, suc-le-suc}
 use native.Mathlib.Nat.{le-of-suc-le-suc, not-suc-le-zero, suc-sub-suc, sub-zero, zero-sub, suc-add, add-suc, add-zero, zero-add, zero-min, min-zero, suc-min-suc}
 use native.Mathlib.Numerals.{add-one}
 use native.Mathlib.Omega.{arith}
+use lib.Dec.{eqb}
 use lib.ListN.{length, getD, take, drop, length-take, drop-of-length-le, length-map, List·getD-map, List·getD-eq-default}
 use lib.Seq.{drop-cons, take-nil, take-all, take-length, slice}
-use Rattle.utf8.specs.Lists.{any, all, neighboursFrom, neighbours, between, numberedFrom, numbered, zip}
+use Rattle.utf8.proofs.Tests.{and-left, and-right}
+use Rattle.utf8.specs.Lists.{same, any, all, neighboursFrom, neighbours, between, numberedFrom, numbered, zip}
 
 module _ {ℓ} {A : Type ℓ} (test : A → Bool) (xs : List A) (i : ℕ) where
   -- ---- one element more, and the end
@@ -37,6 +39,14 @@ module _ {ℓ} {A : Type ℓ} (test : A → Bool) (xs : List A) (i : ℕ) where
   pub all-ended : length xs ≤ i → all test (drop i xs) ≡ true
   all-ended h = rw (drop-of-length-le xs h)
 
+  pub all-holds : (d : A) → all test xs ≡ true → i < length xs → test (getD xs i d) ≡ true
+  all-holds d e h = go xs i e h
+    where
+      go : (xs : List A) (i : ℕ) → all test xs ≡ true → i < length xs → test (getD xs i d) ≡ true
+      go [] i e h = absurd (not-suc-le-zero h)
+      go (x ∷ xs) zero e h = and-left (test x) (all test xs) e
+      go (x ∷ xs) (suc i) e h = go xs i (and-right (test x) (all test xs) e) (le-of-suc-le-suc h)
+
 module _ {ℓ} {A : Type ℓ} where
   -- ---- neighbours
 
@@ -57,6 +67,22 @@ module _ {ℓ} {A : Type ℓ} where
   getD-neighbours [] i d e h = absurd (not-suc-le-zero h)
   getD-neighbours (x ∷ xs) i d e h = rw add-one (getD-neighboursFrom x xs i d e (omega arith))
 
+module _ {ℓ} {A : Type ℓ} (test : A × A → Bool) (xs : List A) (i : ℕ) (d : A) where
+  -- ---- a test of all neighbours
+
+  pub pairs-next : i + 1 < length xs → test (getD xs i d, getD xs (i + 1) d) ≡ true → all test (drop i (neighbours xs)) ≡ all test (drop (i + 1) (neighbours xs))
+  pairs-next h e = all-next test (neighbours xs) i (d, d) (rw length-neighbours (omega arith)) (ap test (getD-neighbours xs i d d h) ∙ e)
+
+  pub pairs-broken : i + 1 < length xs → test (getD xs i d, getD xs (i + 1) d) ≡ false → all test (drop i (neighbours xs)) ≡ false
+  pairs-broken h e = all-broken test (neighbours xs) i (d, d) (rw length-neighbours (omega arith)) (ap test (getD-neighbours xs i d d h) ∙ e)
+
+  pub pairs-ended : length xs ≤ i + 1 → all test (drop i (neighbours xs)) ≡ true
+  pairs-ended h = all-ended test (neighbours xs) i (rw length-neighbours (omega arith))
+
+  pub pairs-hold : all test (neighbours xs) ≡ true → i + 1 < length xs → test (getD xs i d, getD xs (i + 1) d) ≡ true
+  pairs-hold e h = ap test (sym (getD-neighbours xs i d d h)) ∙ all-holds test (neighbours xs) i (d, d) e (rw length-neighbours (omega arith))
+
+module _ {ℓ} {A : Type ℓ} where
   -- ---- elements with their places
 
   length-numberedFrom : (p : ℕ) (xs : List A) → length (numberedFrom p xs) ≡ length xs
@@ -119,3 +145,23 @@ getD-between places xs i h =
 -- past the last part there is none
 pub getD-between-past : (places xs : List ℕ) (i : ℕ) → length places ≤ i + 1 → getD (between places xs) i [] ≡ []
 getD-between-past places xs i h = List·getD-eq-default (between places xs) [] (rw length-between (omega arith))
+
+-- ---- the same as two lists joined
+
+and-assoc : (a b c : Bool) → (a && (b && c)) ≡ ((a && b) && c)
+and-assoc true b c = refl
+and-assoc false b c = refl
+
+same-join : (whole xs ys : List ℕ) → same whole (xs ++ ys) ≡ (same (take (length xs) whole) xs && same (drop (length xs) whole) ys)
+same-join whole [] ys = refl
+same-join [] (x ∷ xs) ys = refl
+same-join (w ∷ whole) (x ∷ xs) ys = rw (same-join whole xs ys) (and-assoc (eqb w x) (same (take (length xs) whole) xs) (same (drop (length xs) whole) ys))
+
+module _ (whole xs ys front : List ℕ) (is-front : front ≡ slice 0 (length xs) whole) where
+  -- a list whose front is not the first is not the two joined
+  pub no-join : same front xs ≡ false → same whole (xs ++ ys) ≡ false
+  no-join e = same-join whole xs ys ∙ rw (← is-front, e)
+
+  -- one whose front is the first is the two joined where the rest is the second
+  pub join-rest : (rest : List ℕ) → rest ≡ slice (length xs) (length whole) whole → same front xs ≡ true → same whole (xs ++ ys) ≡ same rest ys
+  join-rest rest is-rest e = same-join whole xs ys ∙ rw (← is-front, e, is-rest, take-length)
