@@ -1,3 +1,4 @@
+pub mod LookupLaws
 pub mod OrderLaws
 pub mod RowLaws
 pub mod SearchLaws

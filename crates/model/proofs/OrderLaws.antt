@@ -1,8 +1,8 @@
 -- Laws of byte order: from place to place, and that it is an order.
 use mathlib.Core.Path.{_≡_, refl, sym, ap, ap₂, _∙_}
-use mathlib.Core.Bool.{Bool, true, false, cond, _&&_}
+use mathlib.Core.Bool.{Bool, true, false, _&&_}
 use mathlib.Core.List.{List, [], _∷_}
-use Prim.Native.Nat.{ℕ, suc, _+_, _≤_, _<_}
+use Prim.Native.Nat.{ℕ, zero, suc, _+_, _≤_, _<_}
 use native.Mathlib.Nat.{le-of-lt}
 use native.Mathlib.Numerals.{add-one}
 use native.Mathlib.Omega.{arith}
@@ -67,7 +67,7 @@ isEqual Less = false
 isEqual Equal = true
 isEqual Greater = false
 
-equal-or : (x y : ℕ) (t : Bool) (o : Order) → t ≡ isEqual o → (eqb x y && t) ≡ isEqual (orderOr x y o)
+pub equal-or : (x y : ℕ) (t : Bool) (o : Order) → t ≡ isEqual o → (eqb x y && t) ≡ isEqual (orderOr x y o)
 equal-or x y t o e =
     by-numbers x y (λ l. rw (or-less x y o l, ne-eqb x y (omega arith))) (λ g. rw (or-greater x y o g, ne-eqb x y (omega arith)))
     (λ q. rw (or-else x y o q, eq-eqb x y q) e)
@@ -78,17 +78,30 @@ same-is-equal [] (y ∷ ys) = refl
 same-is-equal (x ∷ xs) [] = refl
 same-is-equal (x ∷ xs) (y ∷ ys) = equal-or x y (same xs ys) (byteOrder xs ys) (same-is-equal xs ys)
 
+pub less-is : (o : Order) → isLess o ≡ true → o ≡ Less
+less-is Less e = refl
+less-is Equal e = clash refl e
+less-is Greater e = clash refl e
+
+pub equal-is : (o : Order) → isEqual o ≡ true → o ≡ Equal
+equal-is Less e = clash refl e
+equal-is Equal e = refl
+equal-is Greater e = clash refl e
+
 -- ---- byte order is a strict order
 
 pub order-self : (xs : List ℕ) → byteOrder xs xs ≡ Equal
 order-self [] = refl
 order-self (x ∷ xs) = or-else x x (byteOrder xs xs) refl ∙ order-self xs
 
-never {ℓ} : {A : Type ℓ} {o p : Order} → o ≡ p → isLess o ≡ true → isLess p ≡ false → A
+pub never {ℓ} : {A : Type ℓ} {o p : Order} → o ≡ p → isLess o ≡ true → isLess p ≡ false → A
 never q l m = clash (ap isLess q ∙ m) l
 
-unequal {ℓ} : {A : Type ℓ} {o p : Order} → o ≡ p → isEqual o ≡ false → isEqual p ≡ true → A
+pub unequal {ℓ} : {A : Type ℓ} {o p : Order} → o ≡ p → isEqual o ≡ false → isEqual p ≡ true → A
 unequal q l m = clash l (ap isEqual q ∙ m)
+
+pub order-irreflexive : (xs : List ℕ) → byteOrder xs xs ≡ Less → ⊥
+order-irreflexive xs e = never (sym e ∙ order-self xs) refl refl
 
 pub equal-strings : (xs ys : List ℕ) → byteOrder xs ys ≡ Equal → xs ≡ ys
 equal-strings [] [] e = refl
@@ -155,5 +168,19 @@ module _ (p q : ℕ × ℕ) where
 pub pair-self : (p : ℕ × ℕ) → pairOrder p p ≡ Equal
 pair-self p = pair-order p p ∙ order-self (twoOf p)
 
+pub pair-irreflexive : (p : ℕ × ℕ) → pairOrder p p ≡ Less → ⊥
+pair-irreflexive p e = order-irreflexive (twoOf p) (sym (pair-order p p) ∙ e)
+
 pub pair-trans : (p q r : ℕ × ℕ) → pairOrder p q ≡ Less → pairOrder q r ≡ Less → pairOrder p r ≡ Less
 pair-trans p q r h k = pair-order p r ∙ order-trans (twoOf p) (twoOf q) (twoOf r) (sym (pair-order p q) ∙ h) (sym (pair-order q r) ∙ k)
+
+-- ---- keys that ascend
+
+module _ (key : ℕ → List ℕ) (n : ℕ) (step : (i : ℕ) → i + 1 < n → byteOrder (key i) (key (i + 1)) ≡ Less) where
+  -- Each stands before every later one.
+  pub keys-ascend : (i j : ℕ) → i < j → j < n → byteOrder (key i) (key j) ≡ Less
+  keys-ascend i zero h k = absurd (omega arith)
+  keys-ascend i (suc j) h k =
+      let last : byteOrder (key j) (key (suc j)) ≡ Less = rw add-one at (step j (omega arith)) in
+      by-numbers i j (λ l. order-trans (key i) (key j) (key (suc j)) (keys-ascend i j l (omega arith)) last) (λ g. absurd (omega arith))
+      (λ q. rw q last)

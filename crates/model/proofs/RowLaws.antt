@@ -1,21 +1,22 @@
 -- Laws of the merge rows' columns, from row to row.
 use mathlib.Core.Path.{_≡_, refl, sym, ap, _∙_}
 use mathlib.Core.Bool.{Bool, true, false, _&&_, _||_}
-use mathlib.Core.List.{List, [], _∷_, _++_}
+use mathlib.Core.List.{List, _++_, map}
 use Prim.Native.Nat.{ℕ, _+_, _-_, _≤_, _<_, min}
-use native.Mathlib.Nat.{le-of-lt}
+use native.Mathlib.Nat.{le-of-lt, zero-add}
 use native.Mathlib.Omega.{arith}
 use borrow.Author.Tests.{lt-ltb, le-ltb, eq-eqb, ne-eqb}
 use lib.Dec.{ltb, eqb}
-use lib.ListN.{length, getD, drop}
-use Rattle.utf8.specs.Lists.{all, neighbours, zip, same}
-use Rattle.utf8.proofs.Places.{length-zip, getD-zip, all-next, all-broken, all-ended, pairs-next, pairs-broken, pairs-ended}
+use lib.ListN.{length, getD, drop, length-map, List·getD-map}
+use Rattle.utf8.specs.Lists.{all, neighbours, zip, same, below}
+use Rattle.utf8.proofs.Places.{length-zip, getD-zip, getD-inside, length-countFrom, getD-countFrom, all-next, all-broken, all-ended, pairs-next, pairs-broken, pairs-ended, pairs-hold}
 use Rattle.model.specs.declared.Order.{Order}
-use Rattle.model.specs.declared.Order.the-variants.{Less, Equal, Greater}
-use Rattle.model.specs.Model.{strings, piece}
-use Rattle.model.specs.Search.{orderOr, isLess, pairOrder}
+use Rattle.model.specs.declared.Order.the-variants.{Less, Equal}
+use Rattle.model.specs.Model.{strings, piece, Row, rowsOf, rowOf}
+use Rattle.model.specs.Search.{orderOr, byteOrder, isLess, pairOrder, rowOrder, foundRow, rowFound}
 use Rattle.model.specs.Check.{pairBefore, rowsAscend, allBelow, rowsJoin}
-use Rattle.model.proofs.OrderLaws.{by-numbers, or-less, or-greater, or-else}
+use Rattle.model.proofs.OrderLaws.{by-numbers, or-less, or-greater, or-else, isEqual, equal-or, less-is, twoOf}
+use Rattle.model.proofs.SearchLaws.{Falls, entry-found, keys-fall}
 use Rattle.model.proofs.StringLaws.{length-strings}
 
 -- ---- rows in order
@@ -106,3 +107,49 @@ module _ (pieces : List (List ℕ)) (left right result : List ℕ) where
 -- what a test of a column against the count that the offsets give says of it
 pub below-count : (bytes offsets ids : List ℕ) {count : ℕ} {r b : Bool} → count ≡ length offsets - 1 → r ≡ allBelow count ids → r ≡ b → allBelow (length (strings bytes offsets)) ids ≡ b
 below-count bytes offsets ids is-count told is = ap (λ (n : ℕ). allBelow n ids) (length-strings bytes offsets ∙ sym is-count) ∙ sym told ∙ is
+
+-- ---- a search among rows that ascend
+
+module _ (left right : List ℕ) (ascends : rowsAscend left right ≡ true) (level : length right ≡ length left) where
+  row-key : ℕ → List ℕ
+  row-key i = twoOf (getD left i 0, getD right i 0)
+
+  row-step : (i : ℕ) → i + 1 < length left → byteOrder (row-key i) (row-key (i + 1)) ≡ Less
+  unfolding rowsAscend row-key pairOrder
+  row-step i h =
+      less-is (nextOrder left right i) (sym (before-next left right i h (omega arith)) ∙ pairs-hold _ (zip left right) i (0, 0) ascends (rw length-zip (omega arith)))
+
+  pub rows-fall : (l r : ℕ) → Falls (rowOrder left right l r) (length left)
+  unfolding rowOrder row-key pairOrder
+  rows-fall l r = keys-fall row-key (length left) row-step (twoOf (l, r))
+
+and-true : (b : Bool) → b ≡ (b && true)
+and-true true = refl
+and-true false = refl
+
+pub pair-is-equal : (a b l r : ℕ) → (eqb a l && eqb b r) ≡ isEqual (pairOrder (a, b) (l, r))
+unfolding pairOrder
+pair-is-equal a b l r = equal-or a l (eqb b r) (orderOr b r Equal) (and-true (eqb b r) ∙ equal-or b r true Equal refl)
+
+module _ (left right result rank : List ℕ) where
+  rowAt : ℕ → Row
+  rowAt i = record { left = getD left i 0; right = getD right i 0; result = getD result i 0; rank = getD rank i 0 }
+
+  pub length-rows : length (rowsOf left right result rank) ≡ length left
+  unfolding rowsOf
+  length-rows = length-map (below (length left)) _ ∙ length-countFrom 0 (length left)
+
+  -- The row at a place has what its columns have there.
+  pub row-is : (i : ℕ) (d : Row) → i < length left → getD (rowsOf left right result rank) i d ≡ record { left = getD left i 0; right = getD right i 0; result = getD result i 0; rank = getD rank i 0 }
+  unfolding rowsOf rowAt
+  row-is i d h =
+      getD-inside (map rowAt (below (length left))) i d (rowAt 0) (omega (arith, length-rows))
+      ∙ List·getD-map rowAt (below (length left)) i 0
+      ∙ ap rowAt (getD-countFrom 0 (length left) i 0 h ∙ zero-add i)
+
+  -- A search among rows that ascend gives the row of the pair.
+  pub row-found : rowsAscend left right ≡ true → length right ≡ length left → (l r : ℕ) → rowFound (rowsOf left right result rank) (foundRow left right l r) ≡ rowOf (rowsOf left right result rank) l r
+  unfolding rowFound foundRow rowOf rowOrder
+  row-found ascends level l r =
+      entry-found (rowOrder left right l r) (length left) (rowsOf left right result rank) _ _ length-rows (rows-fall left right ascends level l r)
+      (λ i h. rw (row-is i _ h) (pair-is-equal (getD left i 0) (getD right i 0) l r))

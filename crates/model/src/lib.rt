@@ -1,6 +1,7 @@
 // The model's types. The tables themselves are lent as slices, one a column; what they mean is in specs/Model.antt.
 
 pub mod compare;
+mod lookup;
 mod rows;
 pub mod search;
 pub mod tables;

@@ -1,7 +1,8 @@
 -- What the words on lists give at a place: the laws that a loop over a table asks for.
-use mathlib.Core.Path.{_≡_, refl, sym, ap, ap₂, _∙_, subst}
+use mathlib.Core.Path.{_≡_, refl, sym, ap, _∙_}
 use mathlib.Core.Bool.{Bool, true, false, _&&_, _||_}
-use mathlib.Core.List.{List, [], _∷_, _++_, map}
+use mathlib.Core.List.{List, [], _∷_, _++_}
+use mathlib.Core.Option.{none, some}
 use Prim.Native.Nat.{ℕ, zero, suc, _+_, _-_, _≤_, _<_, min, suc-le-suc}
 use native.Mathlib.Nat.{le-of-suc-le-suc, not-suc-le-zero, suc-sub-suc, sub-zero, zero-sub, suc-add, add-suc, add-zero, zero-add, zero-min, min-zero, suc-min-suc}
 use native.Mathlib.Numerals.{add-one}
@@ -10,7 +11,11 @@ use lib.Dec.{eqb}
 use lib.ListN.{length, getD, take, drop, length-take, drop-of-length-le, length-map, List·getD-map, List·getD-eq-default}
 use lib.Seq.{drop-cons, take-nil, take-all, take-length, slice}
 use Rattle.utf8.proofs.Tests.{and-left, and-right}
-use Rattle.utf8.specs.Lists.{same, any, all, neighboursFrom, neighbours, between, numberedFrom, numbered, zip}
+use Rattle.utf8.specs.Lists.{same, any, all, find, neighboursFrom, neighbours, between, numberedFrom, numbered, zip, countFrom}
+
+or-right : (a : Bool) {b : Bool} → b ≡ true → (a || b) ≡ true
+or-right true e = refl
+or-right false e = e
 
 module _ {ℓ} {A : Type ℓ} (test : A → Bool) (xs : List A) (i : ℕ) where
   -- ---- one element more, and the end
@@ -47,7 +52,35 @@ module _ {ℓ} {A : Type ℓ} (test : A → Bool) (xs : List A) (i : ℕ) where
       go (x ∷ xs) zero e h = and-left (test x) (all test xs) e
       go (x ∷ xs) (suc i) e h = go xs i (and-right (test x) (all test xs) e) (le-of-suc-le-suc h)
 
+module _ {ℓ} {A : Type ℓ} (test : A → Bool) where
+  -- ---- what a list has, by what its elements are
+
+  pub any-one : (xs : List A) (i : ℕ) (d : A) → i < length xs → test (getD xs i d) ≡ true → any test xs ≡ true
+  any-one [] i d h e = absurd (not-suc-le-zero h)
+  any-one (x ∷ xs) zero d h e = rw e
+  any-one (x ∷ xs) (suc i) d h e = or-right (test x) (any-one xs i d (le-of-suc-le-suc h) e)
+
+  pub any-none : (xs : List A) (d : A) → ((i : ℕ) → i < length xs → test (getD xs i d) ≡ false) → any test xs ≡ false
+  any-none [] d f = refl
+  any-none (x ∷ xs) d f = rw (f 0 (omega arith)) (any-none xs d (λ i h. f (suc i) (suc-le-suc h)))
+
+  -- the first that passes is found
+  pub find-first : (xs : List A) (i : ℕ) (d : A) → i < length xs → test (getD xs i d) ≡ true → ((j : ℕ) → j < i → test (getD xs j d) ≡ false) → find test xs ≡ some (getD xs i d)
+  find-first [] i d h e f = absurd (not-suc-le-zero h)
+  find-first (x ∷ xs) zero d h e f = rw e
+  find-first (x ∷ xs) (suc i) d h e f = rw (f 0 (omega arith)) (find-first xs i d (le-of-suc-le-suc h) e (λ j k. f (suc j) (suc-le-suc k)))
+
+  pub find-none : (xs : List A) (d : A) → ((i : ℕ) → i < length xs → test (getD xs i d) ≡ false) → find test xs ≡ none
+  find-none [] d f = refl
+  find-none (x ∷ xs) d f = rw (f 0 (omega arith)) (find-none xs d (λ i h. f (suc i) (suc-le-suc h)))
+
 module _ {ℓ} {A : Type ℓ} where
+  -- what stands for a missing element does not matter where there is one
+  pub getD-inside : (xs : List A) (i : ℕ) (d e : A) → i < length xs → getD xs i d ≡ getD xs i e
+  getD-inside [] i d e h = absurd (not-suc-le-zero h)
+  getD-inside (x ∷ xs) zero d e h = refl
+  getD-inside (x ∷ xs) (suc i) d e h = getD-inside xs i d e (le-of-suc-le-suc h)
+
   -- ---- neighbours
 
   length-neighboursFrom : (x : A) (xs : List A) → length (neighboursFrom x xs) ≡ length xs
@@ -131,6 +164,17 @@ module _ {ℓ} {A : Type ℓ} where
 
   pub slice-rest : (f t : ℕ) (l : List A) → length l ≤ t → take (length l - f) (drop f l) ≡ slice f t l
   slice-rest f t l h = slice-of f (length l) l ∙ rw (take-all t l h, take-length)
+
+-- ---- numbers from one on
+
+pub length-countFrom : (first n : ℕ) → length (countFrom first n) ≡ n
+length-countFrom first zero = refl
+length-countFrom first (suc n) = ap suc (length-countFrom (suc first) n)
+
+pub getD-countFrom : (first n i d : ℕ) → i < n → getD (countFrom first n) i d ≡ first + i
+getD-countFrom first zero i d h = absurd (not-suc-le-zero h)
+getD-countFrom first (suc n) zero d h = sym (add-zero first)
+getD-countFrom first (suc n) (suc i) d h = rw (add-suc, ← suc-add) (getD-countFrom (suc first) n i d (le-of-suc-le-suc h))
 
 -- ---- parts between places
 
