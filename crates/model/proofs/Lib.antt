@@ -1,4 +1,6 @@
 pub mod CheckLaws
+pub mod LookupLaws
 pub mod OrderLaws
+pub mod RowLaws
 pub mod SearchLaws
 pub mod StringLaws

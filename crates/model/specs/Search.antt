@@ -2,9 +2,10 @@
 use Prim.Native.Nat.{ℕ, zero, suc, _+_, _-_, _/_}
 use mathlib.Core.Bool.{Bool, true, false, cond}
 use mathlib.Core.List.{List, [], _∷_}
+use mathlib.Core.Option.{Option, none, some}
 use lib.Dec.{ltb}
 use lib.ListN.{length, getD}
-use Rattle.model.specs.Model.{piece}
+use Rattle.model.specs.Model.{Row, piece}
 use Rattle.model.specs.declared.Order.{Order}
 use Rattle.model.specs.declared.Order.the-variants.{Less, Equal, Greater}
 use Rattle.model.specs.declared.Found.{Found}
@@ -66,3 +67,20 @@ rowOrder left right l r i = pairOrder (getD left i 0, getD right i 0) (l, r)
 -- The place among the merge rows at which a search for a pair ends.
 unfoldable pub foundRow : List ℕ → List ℕ → ℕ → ℕ → Found
 foundRow left right l r = searched (rowOrder left right l r) 0 (length left)
+
+-- The entry at the place that a search gives.
+abbrev pub entryAt {ℓ} : {A : Type ℓ} → A → List A → Found → Option A
+entryAt d xs (At i) = some (getD xs i d)
+entryAt d xs Nothing = none
+
+abbrev pub isAt : Found → Bool
+isAt (At i) = true
+isAt Nothing = false
+
+-- The id that a search in the lookup list gives.
+unfoldable pub idAt : List ℕ → Found → Option ℕ
+idAt lookup found = entryAt 0 lookup found
+
+-- The row that a search among the merge rows gives.
+unfoldable pub rowFound : List Row → Found → Option Row
+rowFound rows found = entryAt (record { left = 0; right = 0; result = 0; rank = 0 }) rows found

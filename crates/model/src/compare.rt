@@ -1,7 +1,8 @@
 // Byte order, and the order of pairs of ids.
 use crate::Order;
 ghost use mathlib.Core.Path.{_≡_};
-ghost use Rattle.model.specs.Search.{byteOrder, pairOrder};
+ghost use Rattle.utf8.specs.Lists.{same};
+ghost use Rattle.model.specs.Search.{byteOrder, pairOrder, isLess};
 
 // How `a` stands to `b` in byte order.
 pub fn byte_order(a: &[u8], b: &[u8]) -> Order
@@ -44,4 +45,25 @@ pub fn pair_order(a: u32, b: u32, l: u32, r: u32) -> Order
         return Order::Greater;
     }
     Order::Equal
+}
+
+pub fn is_less(order: Order) -> bool
+    ensures { λ r. ⌜ r ≡ isLess order ⌝ }
+{
+    match order {
+        Order::Less => true,
+        Order::Equal => false,
+        Order::Greater => false,
+    }
+}
+
+// Whether `a` and `b` are the same bytes.
+pub fn equal(a: &[u8], b: &[u8]) -> bool
+    ensures { λ r. ⌜ r ≡ same (now (a .entry)) (now (b .entry)) ⌝ }
+{
+    match byte_order(a, b) {
+        Order::Less => false,
+        Order::Equal => true,
+        Order::Greater => false,
+    }
 }

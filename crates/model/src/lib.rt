@@ -2,7 +2,9 @@
 
 pub mod compare;
 mod fallback;
+mod lookup;
 mod offsets;
+mod rows;
 pub mod search;
 mod sizes;
 mod steps;

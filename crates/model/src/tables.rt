@@ -1,8 +1,8 @@
 // Reading the lent tables: numbers of a column, parts of bytes, and the strings that lie end to end.
 ghost use mathlib.Core.Path.{_≡_};
 ghost use mathlib.Core.List.{[]};
-ghost use Prim.Native.Nat.{_<_};
-ghost use lib.ListN.{getD};
+ghost use Prim.Native.Nat.{_-_, _<_};
+ghost use lib.ListN.{length, getD};
 ghost use lib.Seq.{slice};
 ghost use Rattle.model.specs.Model.{strings};
 
@@ -48,4 +48,14 @@ pub fn string_at<'a>(bytes: &'a [u8], offsets: &[u32], i: usize) -> &'a [u8]
         return &bytes[..0];
     }
     part(bytes, wide(offsets[i]), wide(offsets[next]))
+}
+
+// How many strings a row of offsets cuts out.
+pub fn string_count(offsets: &[u32]) -> usize
+    ensures { λ r. ⌜ r ≡ length (now (offsets .entry)) - 1 ⌝ }
+{
+    if offsets.len() == 0 {
+        return 0;
+    }
+    offsets.len() - 1
 }

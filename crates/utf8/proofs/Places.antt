@@ -1,7 +1,8 @@
 -- What the words on lists give at a place: the laws that a loop over a table asks for.
-use mathlib.Core.Path.{_≡_, refl, sym, ap, ap₂, _∙_, subst}
+use mathlib.Core.Path.{_≡_, refl, sym, ap, _∙_}
 use mathlib.Core.Bool.{Bool, true, false, _&&_, _||_, or-assoc}
 use mathlib.Core.List.{List, [], _∷_, _++_, map}
+use mathlib.Core.Option.{none, some}
 use Prim.Native.Nat.{ℕ, zero, suc, _+_, _-_, _≤_, _<_, min, suc-le-suc}
 use native.Mathlib.Nat.{le-of-suc-le-suc, not-suc-le-zero, suc-sub-suc, sub-zero, zero-sub, suc-add, add-suc, add-zero, zero-add, zero-min, min-zero, suc-min-suc}
 use native.Mathlib.Numerals.{add-one}
@@ -9,7 +10,12 @@ use native.Mathlib.Omega.{arith}
 use lib.Dec.{eqb, eqb·suc-zero}
 use lib.ListN.{length, getD, take, drop, length-take, drop-of-length-le, length-map, List·getD-map, List·getD-eq-default}
 use lib.Seq.{drop-cons, take-nil, take-all, take-length, slice}
-use Rattle.utf8.specs.Lists.{isEmpty, lastOr, any, all, neighboursFrom, neighbours, between, numberedFrom, numbered, zip}
+use Rattle.utf8.proofs.Tests.{and-left, and-right}
+use Rattle.utf8.specs.Lists.{isEmpty, lastOr, same, any, all, find, neighboursFrom, neighbours, between, numberedFrom, numbered, zip, countFrom}
+
+or-right : (a : Bool) {b : Bool} → b ≡ true → (a || b) ≡ true
+or-right true e = refl
+or-right false e = e
 
 module _ {ℓ} {A : Type ℓ} (test : A → Bool) (xs : List A) (i : ℕ) where
   -- ---- one element more, and the end
@@ -38,12 +44,47 @@ module _ {ℓ} {A : Type ℓ} (test : A → Bool) (xs : List A) (i : ℕ) where
   pub all-ended : length xs ≤ i → all test (drop i xs) ≡ true
   all-ended h = rw (drop-of-length-le xs h)
 
+  pub all-holds : (d : A) → all test xs ≡ true → i < length xs → test (getD xs i d) ≡ true
+  all-holds d e h = go xs i e h
+    where
+      go : (xs : List A) (i : ℕ) → all test xs ≡ true → i < length xs → test (getD xs i d) ≡ true
+      go [] i e h = absurd (not-suc-le-zero h)
+      go (x ∷ xs) zero e h = and-left (test x) (all test xs) e
+      go (x ∷ xs) (suc i) e h = go xs i (and-right (test x) (all test xs) e) (le-of-suc-le-suc h)
+
 module _ {ℓ} {A : Type ℓ} (test : A → Bool) where
+  -- ---- what a list has, by what its elements are
+
+  pub any-one : (xs : List A) (i : ℕ) (d : A) → i < length xs → test (getD xs i d) ≡ true → any test xs ≡ true
+  any-one [] i d h e = absurd (not-suc-le-zero h)
+  any-one (x ∷ xs) zero d h e = rw e
+  any-one (x ∷ xs) (suc i) d h e = or-right (test x) (any-one xs i d (le-of-suc-le-suc h) e)
+
+  pub any-none : (xs : List A) (d : A) → ((i : ℕ) → i < length xs → test (getD xs i d) ≡ false) → any test xs ≡ false
+  any-none [] d f = refl
+  any-none (x ∷ xs) d f = rw (f 0 (omega arith)) (any-none xs d (λ i h. f (suc i) (suc-le-suc h)))
+
+  -- the first that passes is found
+  pub find-first : (xs : List A) (i : ℕ) (d : A) → i < length xs → test (getD xs i d) ≡ true → ((j : ℕ) → j < i → test (getD xs j d) ≡ false) → find test xs ≡ some (getD xs i d)
+  find-first [] i d h e f = absurd (not-suc-le-zero h)
+  find-first (x ∷ xs) zero d h e f = rw e
+  find-first (x ∷ xs) (suc i) d h e f = rw (f 0 (omega arith)) (find-first xs i d (le-of-suc-le-suc h) e (λ j k. f (suc j) (suc-le-suc k)))
+
+  pub find-none : (xs : List A) (d : A) → ((i : ℕ) → i < length xs → test (getD xs i d) ≡ false) → find test xs ≡ none
+  find-none [] d f = refl
+  find-none (x ∷ xs) d f = rw (f 0 (omega arith)) (find-none xs d (λ i h. f (suc i) (suc-le-suc h)))
+
   pub any-append : (xs ys : List A) → any test (xs ++ ys) ≡ any test xs || any test ys
   any-append [] ys = refl
   any-append (x ∷ xs) ys = ap (λ (b : Bool). test x || b) (any-append xs ys) ∙ sym (or-assoc (test x) (any test xs) (any test ys))
 
 module _ {ℓ} {A : Type ℓ} where
+  -- what stands for a missing element does not matter where there is one
+  pub getD-inside : (xs : List A) (i : ℕ) (d e : A) → i < length xs → getD xs i d ≡ getD xs i e
+  getD-inside [] i d e h = absurd (not-suc-le-zero h)
+  getD-inside (x ∷ xs) zero d e h = refl
+  getD-inside (x ∷ xs) (suc i) d e h = getD-inside xs i d e (le-of-suc-le-suc h)
+
   pub empty-by-length : (xs : List A) → isEmpty xs ≡ eqb (length xs) 0
   empty-by-length [] = refl
   empty-by-length (x ∷ xs) = sym (eqb·suc-zero (length xs))
@@ -77,6 +118,7 @@ module _ {ℓ} {A : Type ℓ} where
   getD-neighbours [] i d e h = absurd (not-suc-le-zero h)
   getD-neighbours (x ∷ xs) i d e h = rw add-one (getD-neighboursFrom x xs i d e (omega arith))
 
+module _ {ℓ} {A : Type ℓ} where
   -- ---- elements with their places
 
   length-numberedFrom : (p : ℕ) (xs : List A) → length (numberedFrom p xs) ≡ length xs
@@ -120,6 +162,9 @@ module _ {ℓ} {A : Type ℓ} (test : A × A → Bool) (xs : List A) (i : ℕ) (
 
   pub all-pair-ended : length xs ≤ i + 1 → all test (drop i (neighbours xs)) ≡ true
   all-pair-ended h = all-ended test (neighbours xs) i (omega (arith, length-neighbours xs))
+
+  pub all-pair-holds : all test (neighbours xs) ≡ true → i + 1 < length xs → test (getD xs i d, getD xs (i + 1) d) ≡ true
+  all-pair-holds e h = ap test (sym (getD-neighbours xs i d d h)) ∙ all-holds test (neighbours xs) i (d, d) e (inside h)
 
 module _ {ℓ} {A : Type ℓ} (test : ℕ × A → Bool) (xs : List A) (i : ℕ) (d : A) where
   -- ---- tests of elements with their places, one more and the end
@@ -168,6 +213,17 @@ module _ {ℓ} {A : Type ℓ} where
   pub slice-rest : (f t : ℕ) (l : List A) → length l ≤ t → take (length l - f) (drop f l) ≡ slice f t l
   slice-rest f t l h = slice-of f (length l) l ∙ rw (take-all t l h, take-length)
 
+-- ---- numbers from one on
+
+pub length-countFrom : (first n : ℕ) → length (countFrom first n) ≡ n
+length-countFrom first zero = refl
+length-countFrom first (suc n) = ap suc (length-countFrom (suc first) n)
+
+pub getD-countFrom : (first n i d : ℕ) → i < n → getD (countFrom first n) i d ≡ first + i
+getD-countFrom first zero i d h = absurd (not-suc-le-zero h)
+getD-countFrom first (suc n) zero d h = sym (add-zero first)
+getD-countFrom first (suc n) (suc i) d h = rw (add-suc, ← suc-add) (getD-countFrom (suc first) n i d (le-of-suc-le-suc h))
+
 -- ---- parts between places
 
 pub length-between : (places xs : List ℕ) → length (between places xs) ≡ length places - 1
@@ -181,3 +237,23 @@ getD-between places xs i h =
 -- past the last part there is none
 pub getD-between-past : (places xs : List ℕ) (i : ℕ) → length places ≤ i + 1 → getD (between places xs) i [] ≡ []
 getD-between-past places xs i h = List·getD-eq-default (between places xs) [] (rw length-between (omega arith))
+
+-- ---- the same as two lists joined
+
+and-assoc : (a b c : Bool) → (a && (b && c)) ≡ ((a && b) && c)
+and-assoc true b c = refl
+and-assoc false b c = refl
+
+same-join : (whole xs ys : List ℕ) → same whole (xs ++ ys) ≡ (same (take (length xs) whole) xs && same (drop (length xs) whole) ys)
+same-join whole [] ys = refl
+same-join [] (x ∷ xs) ys = refl
+same-join (w ∷ whole) (x ∷ xs) ys = rw (same-join whole xs ys) (and-assoc (eqb w x) (same (take (length xs) whole) xs) (same (drop (length xs) whole) ys))
+
+module _ (whole xs ys front : List ℕ) (is-front : front ≡ slice 0 (length xs) whole) where
+  -- a list whose front is not the first is not the two joined
+  pub no-join : same front xs ≡ false → same whole (xs ++ ys) ≡ false
+  no-join e = same-join whole xs ys ∙ rw (← is-front, e)
+
+  -- one whose front is the first is the two joined where the rest is the second
+  pub join-rest : (rest : List ℕ) → rest ≡ slice (length xs) (length whole) whole → same front xs ≡ true → same whole (xs ++ ys) ≡ same rest ys
+  join-rest rest is-rest e = same-join whole xs ys ∙ rw (← is-front, e, is-rest, take-length)
