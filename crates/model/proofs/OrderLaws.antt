@@ -43,6 +43,7 @@ module _ (xs ys : List ℕ) (i : ℕ) where
 
 -- ---- the order of two numbers, or else what is given
 
+-- Of two numbers one is less, or they are equal.
 pub by-numbers {ℓ} : {A : Type ℓ} (x y : ℕ) → (x < y → A) → (y < x → A) → (x ≡ y → A) → A
 by-numbers x y less greater equal =
     ⊎-elim (λ l. less (ltb-true x y l))
@@ -94,6 +95,7 @@ pub order-self : (xs : List ℕ) → byteOrder xs xs ≡ Equal
 order-self [] = refl
 order-self (x ∷ xs) = or-else x x (byteOrder xs xs) refl ∙ order-self xs
 
+-- No order is less and not less, or equal and not equal.
 pub never {ℓ} : {A : Type ℓ} {o p : Order} → o ≡ p → isLess o ≡ true → isLess p ≡ false → A
 never q l m = clash (ap isLess q ∙ m) l
 

@@ -1,4 +1,4 @@
--- Laws of the merge rows' columns, from row to row.
+-- Laws of the merge rows: from row to row of their columns, and what a search among them gives.
 use mathlib.Core.Path.{_≡_, refl, sym, ap, _∙_}
 use mathlib.Core.Bool.{Bool, true, false, _&&_, _||_}
 use mathlib.Core.List.{List, _++_, map}

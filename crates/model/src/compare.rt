@@ -47,6 +47,7 @@ pub fn pair_order(a: u32, b: u32, l: u32, r: u32) -> Order
     Order::Equal
 }
 
+// Whether an order says that the one stands before the other.
 pub fn is_less(order: Order) -> bool
     ensures { λ r. ⌜ r ≡ isLess order ⌝ }
 {
