@@ -4,3 +4,4 @@ pub mod OrderLaws
 pub mod RowLaws
 pub mod SearchLaws
 pub mod StringLaws
+pub mod Accepted

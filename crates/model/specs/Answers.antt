@@ -12,11 +12,11 @@ abbrev pub lowest : List (ℕ × Bool) → ℕ
 lowest [] = 0
 lowest (test ∷ tests) = let others = lowest tests in cond (test .1) (test .0) others
 
-unfoldable pub done : ℕ → ℕ → ℕ → Answer
+abbrev pub done : ℕ → ℕ → ℕ → Answer
 done written drops skips = record { number = 0; place = 0; written = written; drops = drops; skips = skips }
 
 -- "A refusal has the last three 0."
-unfoldable pub refused : ℕ → ℕ → Answer
+abbrev pub refused : ℕ → ℕ → Answer
 refused number place = record { number = number; place = place; written = 0; drops = 0; skips = 0 }
 
 -- "For 9 the place is the length of the longest valid prefix; otherwise 0."

@@ -90,7 +90,7 @@ unfolding Chars.charForms Chars.charWidth Chars.chars Chars.isChar Chars.valid C
     WhiteSpace.whiteSpace WhiteSpace.isWhiteSpace WhiteSpace.isWhite WhiteSpace.trimStart WhiteSpace.trimEnd
     Model.strings Model.piece Model.lookupId Model.fallbackId Model.rowsOf Model.rowOf Model.contents Model.tokenAt Model.stepString Model.spansOf Model.piecesOf Model.mergeRows Model.stepsOf
     Mark.mark Mark.space Mark.markWidth Mark.startsWithMark Mark.endsWithMark
-    Answers.done Answers.refused Answers.placeOf Answers.filled Answers.scratchAfter Answers.outcome Answers.withScratch
+    Answers.placeOf Answers.filled Answers.scratchAfter Answers.outcome Answers.withScratch
     Search.isBefore
     Check.stepSpans Check.pairTooLong Check.stringTooLong Check.spanTooLong Check.wrongPieceSizes Check.wrongRowSizes Check.wrongTokenSizes Check.wrongListSizes Check.wrongStepSizes Check.wrongSizes Check.textTooLong Check.pairRises Check.runInOrder Check.liesOutside Check.offsetsAstray Check.neitherTextNorByte Check.badPiece Check.namesNoPiece Check.lookupAscends Check.isListed Check.pieceMissing Check.badLookup Check.fallbackFits Check.badFallback Check.pairBefore Check.rowsAscend Check.allBelow Check.rowsJoin Check.badRow Check.emptyOrNoText Check.badToken Check.noText Check.badStep Check.modelTests Check.checkNumber Check.checkOutcome
     Steps.prepended Steps.occurrences Steps.replaced Steps.spaceRun Steps.collapsed Steps.stripped Steps.applied Steps.stepOutputs Steps.stepped

@@ -1,0 +1,213 @@
+-- `model::check` meets its contract: the answer is that of the first test that applies.
+use mathlib.Core.Path.{_≡_, refl, sym, ap₂, _∙_}
+use mathlib.Core.Bool.{false, _||_}
+use borrow.Author.Needs.{needs}
+use Rattle.model.specs.Model.{Model, modelOf, tokenList, contents, piecesOf, stepsOf}
+use Rattle.model.specs.Check.{wrongSizes, wrongListSizes, offsetsAstray, badPiece, badLookup, badFallback, badRow, badToken, badStep, spanFails}
+use Rattle.model.proofs.Accepted.{SizesFine, sizes-fine, refuses-1, refuses-2, refuses-3, refuses-4, refuses-5, refuses-6, refuses-7, refuses-8, accepts}
+use Rattle.model.proofs.check.Statement.{statement}
+use Rattle.model.proofs.check.Tie as tie
+
+-- the lent columns as a model, seen from the start and from behind each test that did not apply
+abbrev lent : tie.Start → Model
+lent s =
+    modelOf (s .args .piece-bytes .now) (s .args .piece-offsets .now) (s .args .lookup .now) (s .args .fallback .now) (s .args .left .now) (s .args .right .now) (s .args .result .now) (s .args .rank .now)
+    (tokenList (s .args .first-bytes .now) (s .args .first-offsets .now) (s .args .first-ids .now) (s .args .first-lstrip .now) (s .args .first-rstrip .now))
+    (tokenList (s .args .second-bytes .now) (s .args .second-offsets .now) (s .args .second-ids .now) (s .args .second-lstrip .now) (s .args .second-rstrip .now))
+    (s .args .step-bytes .now) (s .args .steps) (s .args .step-count) (s .args .metaspace)
+
+abbrev after-1 : tie.Else1 → Model
+after-1 e = lent (e .before .before .before .before .before .before .before .before .before .before .before .before .before .before .before .before .before .before .before .before .before)
+
+abbrev after-2 : tie.Else2 → Model
+after-2 e = after-1 (e .before .before)
+
+abbrev after-3 : tie.Else3 → Model
+after-3 e = after-2 (e .before .before)
+
+abbrev after-4 : tie.Else4 → Model
+after-4 e = after-3 (e .before .before)
+
+abbrev after-5 : tie.Else5 → Model
+after-5 e = after-4 (e .before .before)
+
+abbrev after-6 : tie.Else6 → Model
+after-6 e = after-5 (e .before .before)
+
+abbrev after-7 : tie.Else7 → Model
+after-7 e = after-6 (e .before .before)
+
+abbrev after-8 : tie.Else8 → Model
+after-8 e = after-7 (e .before .before)
+
+abbrev after-9 : tie.Else9 → Model
+after-9 e = after-8 (e .before .before)
+
+fine-1 : (e : tie.Else1) → wrongSizes (after-1 e) ≡ false
+unfolding wrongSizes wrongListSizes stepsOf
+fine-1 e = sym (e .before .wrong-sizes .ensures) ∙ e .if1 .left
+
+fine-2 : (e : tie.Else2) → offsetsAstray (after-2 e) ≡ false
+unfolding offsetsAstray stepsOf
+fine-2 e = sym (e .before .offsets-astray .ensures) ∙ e .if2 .left
+
+fine-3 : (e : tie.Else3) → badPiece (piecesOf (after-3 e)) ≡ false
+unfolding piecesOf
+fine-3 e = sym (e .before .bad-piece .ensures) ∙ e .if3 .left
+
+fine-4 : (e : tie.Else4) → badLookup (piecesOf (after-4 e)) ((after-4 e) .lookup) ≡ false
+unfolding piecesOf
+fine-4 e = sym (e .before .bad-lookup .ensures) ∙ e .if4 .left
+
+fine-5 : (e : tie.Else5) → badFallback (piecesOf (after-5 e)) ((after-5 e) .fallback) ≡ false
+unfolding piecesOf
+fine-5 e = sym (e .before .bad-fallback .ensures) ∙ e .if5 .left
+
+fine-6 : (e : tie.Else6) → badRow (piecesOf (after-6 e)) ((after-6 e) .left) ((after-6 e) .right) ((after-6 e) .result) ≡ false
+unfolding piecesOf
+fine-6 e = sym (e .before .bad-row .ensures) ∙ e .if6 .left
+
+fine-7 : (e : tie.Else7) → badToken (contents ((after-7 e) .first)) ≡ false
+unfolding contents
+fine-7 e = sym (e .before .bad-token .ensures) ∙ e .if7 .left
+
+fine-8 : (e : tie.Else8) → badToken (contents ((after-8 e) .second)) ≡ false
+unfolding contents
+fine-8 e = sym (e .before .bad-token2 .ensures) ∙ e .if8 .left
+
+fine-9 : (e : tie.Else9) → badStep ((after-9 e) .stepBytes) (stepsOf (after-9 e)) ≡ false
+unfolding badStep spanFails stepsOf
+fine-9 e = sym (e .before .steps-fail .ensures) ∙ e .if9 .left
+
+wrong-sizes-requires : tie.Need-wrong-sizes-requires
+wrong-sizes-requires c κs = search needs
+
+refused-requires : tie.Need-refused-requires
+refused-requires c κs = search needs
+
+returns : tie.Need-returns
+unfolding wrongSizes wrongListSizes stepsOf
+returns c = c .refused .ensures ∙ sym (refuses-1 (lent (c .before .before .before .before .before .before .before .before .before .before .before .before .before .before .before .before .before .before .before .before .before .before)) (sym (c .before .before .wrong-sizes .ensures) ∙ c .before .if1 .taken))
+
+offsets-astray-requires : tie.Need-offsets-astray-requires
+offsets-astray-requires c κs =
+    let sizes = sizes-fine (after-1 c) (fine-1 c) in
+    (sizes .pieceRow, sizes .first .row, sizes .second .row, sizes .steps)
+
+refused-requires-2 : tie.Need-refused-requires-2
+refused-requires-2 c κs = search needs
+
+returns-2 : tie.Need-returns-2
+unfolding offsetsAstray stepsOf
+returns-2 c = c .refused2 .ensures ∙ sym (refuses-2 (after-1 (c .before .before .before)) (fine-1 (c .before .before .before)) (sym (c .before .before .offsets-astray .ensures) ∙ c .before .if2 .taken))
+
+bad-piece-requires : tie.Need-bad-piece-requires
+bad-piece-requires c κs = search needs
+
+refused-requires-3 : tie.Need-refused-requires-3
+refused-requires-3 c κs = search needs
+
+returns-3 : tie.Need-returns-3
+unfolding piecesOf
+returns-3 c = c .refused3 .ensures ∙ sym (refuses-3 (after-2 (c .before .before .before)) (fine-1 (c .before .before .before .before .before)) (fine-2 (c .before .before .before)) (sym (c .before .before .bad-piece .ensures) ∙ c .before .if3 .taken))
+
+bad-lookup-requires : tie.Need-bad-lookup-requires
+bad-lookup-requires c κs = search needs
+
+refused-requires-4 : tie.Need-refused-requires-4
+refused-requires-4 c κs = search needs
+
+returns-4 : tie.Need-returns-4
+unfolding piecesOf
+returns-4 c = c .refused4 .ensures ∙ sym (refuses-4 (after-3 (c .before .before .before)) (fine-1 (c .before .before .before .before .before .before .before)) (fine-2 (c .before .before .before .before .before)) (fine-3 (c .before .before .before)) (sym (c .before .before .bad-lookup .ensures) ∙ c .before .if4 .taken))
+
+bad-fallback-requires : tie.Need-bad-fallback-requires
+bad-fallback-requires c κs = search needs
+
+refused-requires-5 : tie.Need-refused-requires-5
+refused-requires-5 c κs = search needs
+
+returns-5 : tie.Need-returns-5
+unfolding piecesOf
+returns-5 c = c .refused5 .ensures ∙ sym (refuses-5 (after-4 (c .before .before .before)) (fine-1 (c .before .before .before .before .before .before .before .before .before)) (fine-2 (c .before .before .before .before .before .before .before)) (fine-3 (c .before .before .before .before .before)) (fine-4 (c .before .before .before)) (sym (c .before .before .bad-fallback .ensures) ∙ c .before .if5 .taken))
+
+bad-row-requires : tie.Need-bad-row-requires
+bad-row-requires c κs = search needs
+
+refused-requires-6 : tie.Need-refused-requires-6
+refused-requires-6 c κs = search needs
+
+returns-6 : tie.Need-returns-6
+unfolding piecesOf
+returns-6 c = c .refused6 .ensures ∙ sym (refuses-6 (after-5 (c .before .before .before)) (fine-1 (c .before .before .before .before .before .before .before .before .before .before .before)) (fine-2 (c .before .before .before .before .before .before .before .before .before)) (fine-3 (c .before .before .before .before .before .before .before)) (fine-4 (c .before .before .before .before .before)) (fine-5 (c .before .before .before)) (sym (c .before .before .bad-row .ensures) ∙ c .before .if6 .taken))
+
+bad-token-requires : tie.Need-bad-token-requires
+bad-token-requires c κs = search needs
+
+refused-requires-7 : tie.Need-refused-requires-7
+refused-requires-7 c κs = search needs
+
+returns-7 : tie.Need-returns-7
+unfolding contents
+returns-7 c = c .refused7 .ensures ∙ sym (refuses-7 (after-6 (c .before .before .before)) (fine-1 (c .before .before .before .before .before .before .before .before .before .before .before .before .before)) (fine-2 (c .before .before .before .before .before .before .before .before .before .before .before)) (fine-3 (c .before .before .before .before .before .before .before .before .before)) (fine-4 (c .before .before .before .before .before .before .before)) (fine-5 (c .before .before .before .before .before)) (fine-6 (c .before .before .before)) (ap₂ _||_ (sym (c .before .before .bad-token .ensures) ∙ c .before .if7 .taken) refl))
+
+bad-token-requires-2 : tie.Need-bad-token-requires-2
+bad-token-requires-2 c κs = search needs
+
+refused-requires-8 : tie.Need-refused-requires-8
+refused-requires-8 c κs = search needs
+
+returns-8 : tie.Need-returns-8
+unfolding contents
+returns-8 c = c .refused8 .ensures ∙ sym (refuses-7 (after-7 (c .before .before .before)) (fine-1 (c .before .before .before .before .before .before .before .before .before .before .before .before .before .before .before)) (fine-2 (c .before .before .before .before .before .before .before .before .before .before .before .before .before)) (fine-3 (c .before .before .before .before .before .before .before .before .before .before .before)) (fine-4 (c .before .before .before .before .before .before .before .before .before)) (fine-5 (c .before .before .before .before .before .before .before)) (fine-6 (c .before .before .before .before .before)) (ap₂ _||_ (fine-7 (c .before .before .before)) (sym (c .before .before .bad-token2 .ensures) ∙ c .before .if8 .taken)))
+
+steps-fail-requires : tie.Need-steps-fail-requires
+steps-fail-requires c κs = sizes-fine (after-1 (c .before .before .before .before .before .before .before .before .before .before .before .before .before .before)) (fine-1 (c .before .before .before .before .before .before .before .before .before .before .before .before .before .before)) .steps
+
+refused-requires-9 : tie.Need-refused-requires-9
+refused-requires-9 c κs = search needs
+
+returns-9 : tie.Need-returns-9
+unfolding badStep spanFails stepsOf
+returns-9 c = c .refused9 .ensures ∙ sym (refuses-8 (after-8 (c .before .before .before)) (fine-1 (c .before .before .before .before .before .before .before .before .before .before .before .before .before .before .before .before .before)) (fine-2 (c .before .before .before .before .before .before .before .before .before .before .before .before .before .before .before)) (fine-3 (c .before .before .before .before .before .before .before .before .before .before .before .before .before)) (fine-4 (c .before .before .before .before .before .before .before .before .before .before .before)) (fine-5 (c .before .before .before .before .before .before .before .before .before)) (fine-6 (c .before .before .before .before .before .before .before)) (ap₂ _||_ (fine-7 (c .before .before .before .before .before)) (fine-8 (c .before .before .before))) (sym (c .before .before .steps-fail .ensures) ∙ c .before .if9 .taken))
+
+done-requires : tie.Need-done-requires
+done-requires c κs = search needs
+
+returns-10 : tie.Need-returns-10
+unfolding piecesOf
+returns-10 c = c .done .ensures ∙ sym (accepts (after-9 (c .before)) (fine-1 (c .before .before .before .before .before .before .before .before .before .before .before .before .before .before .before .before .before)) (fine-2 (c .before .before .before .before .before .before .before .before .before .before .before .before .before .before .before)) (fine-3 (c .before .before .before .before .before .before .before .before .before .before .before .before .before)) (fine-4 (c .before .before .before .before .before .before .before .before .before .before .before)) (fine-5 (c .before .before .before .before .before .before .before .before .before)) (fine-6 (c .before .before .before .before .before .before .before)) (ap₂ _||_ (fine-7 (c .before .before .before .before .before)) (fine-8 (c .before .before .before))) (fine-9 (c .before)))
+
+pub check-spec : {M : Type 1} → statement M
+check-spec =
+    tie.close
+    (tie.spec
+    wrong-sizes-requires
+    refused-requires
+    returns
+    offsets-astray-requires
+    refused-requires-2
+    returns-2
+    bad-piece-requires
+    refused-requires-3
+    returns-3
+    bad-lookup-requires
+    refused-requires-4
+    returns-4
+    bad-fallback-requires
+    refused-requires-5
+    returns-5
+    bad-row-requires
+    refused-requires-6
+    returns-6
+    bad-token-requires
+    refused-requires-7
+    returns-7
+    bad-token-requires-2
+    refused-requires-8
+    returns-8
+    steps-fail-requires
+    refused-requires-9
+    returns-9
+    done-requires
+    returns-10)
