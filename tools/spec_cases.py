@@ -9,8 +9,8 @@ answer = [number, place, written, drops, skips], out and scratch_after. Before a
 scratch byte is 5.
 
 Each case becomes one equation that the prover computes, in a repository of its own outside this one. A case that differs
-is named by its line and its call (both counted from 1), with what the definitions give in the place of what FILE says; one
-that is too large to compute is named with the prover's reason, and counts as failed. The exit status is 0 only if no case
+is named by its line and its call (both counted from 1), with what the definitions give in the place of what FILE says. Cases
+that could not be computed, as too large ones, count as failed; the first of each reason is named with it. The exit status is 0 only if no case
 failed; the last line is 'N passed, M failed'.
 """
 import argparse
@@ -178,11 +178,15 @@ class One:
 class Repository:
     def __init__(self, folder, jobs):
         self.folder, self.jobs, self.crates = folder, jobs, 0
-        shutil.copytree(ROOT / "crates", folder / "crates")
+        # the crate that says what a case is, and those it uses: no program and no code that cases have no use for
+        uses = dict(re.findall(r"^(\w+):(.*)", (ROOT / "crates.txt").read_text(), re.M))
+        needed = uses["theorems"].split() + ["theorems"]
+        self.libraries = " ".join(needed)
+        self.listed = "".join(f"{n}:{uses[n]}\n" for n in needed)
+        for name in needed:
+            shutil.copytree(ROOT / "crates" / name, folder / "crates" / name)
         if (ROOT / "target").is_dir():
             shutil.copytree(ROOT / "target", folder / "target", symlinks=True)
-        self.listed = (ROOT / "crates.txt").read_text()
-        self.libraries = " ".join(re.findall(r"^(\w+):", self.listed, re.M))
 
     def rt(self, names):
         environment = dict(os.environ, RT_CUT="0", RT_JOBS=str(self.jobs))
@@ -243,13 +247,13 @@ def judge(repository, groups):
     failed, again = {}, []
     for (models, equations), (refused, other) in zip(groups, repository.prove(groups)):
         if other is not None:
-            failed.update({e: other.splitlines()[-1] for e in equations})
+            failed.update({e: other for e in equations})
         elif refused:
             failed.update({e: "" for e in refused})
             again.append((models, {e: t.replace("≡ true", "≡ false") if e in refused else t for e, t in equations.items()}))
     for (models, equations), (refused, other) in zip(again, repository.prove(again) if again else []):
         if other is not None:
-            failed.update({e: other.splitlines()[-1] for e in equations})
+            failed.update({e: other for e in equations})
         failed.update(refused)
     return failed
 
@@ -313,14 +317,19 @@ def main():
     with tempfile.TemporaryDirectory() as folder:
         repository = Repository(pathlib.Path(folder) / "repository", a.jobs)
         failed = judge(repository, groups)
-        for shown, case in enumerate(c for c in cases if c.name in failed):
-            if not failed[case.name]:
-                print(f"line {case.line}, call {case.number} ({case.op}) differs")
-                if shown < a.explain:
-                    for sentence in explain(repository, case, {case.model: models[case.model]}):
-                        print(f"  {sentence}")
-            else:
-                print(f"line {case.line}, call {case.number} ({case.op}) was not computed: {failed[case.name][:300]}")
+        shown, said = 0, set()
+        for case in (c for c in cases if c.name in failed):
+            reason = failed[case.name]
+            if reason:
+                if reason not in said:
+                    print(f"line {case.line}, call {case.number} ({case.op}) was not computed: {reason[:600]}")
+                said.add(reason)
+                continue
+            print(f"line {case.line}, call {case.number} ({case.op}) differs")
+            shown += 1
+            if shown <= a.explain:
+                for sentence in explain(repository, case, {case.model: models[case.model]}):
+                    print(f"  {sentence}")
     print(f"{len(cases) - len(failed)} passed, {len(failed)} failed")
     raise SystemExit(bool(failed) or not cases)
 

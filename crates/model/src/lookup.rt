@@ -1,4 +1,4 @@
-// The tests of the lookup list.
+// Answer 4: the lookup list.
 use crate::Found;
 use crate::compare::byte_order;
 use crate::compare::is_less;
@@ -22,7 +22,7 @@ fn piece_empty(piece_bytes: &[u8], piece_offsets: &[u32], id: usize) -> bool
 }
 
 // Whether an entry is no id, or the id of an empty piece.
-pub fn names_no_piece(piece_bytes: &[u8], piece_offsets: &[u32], lookup: &[u32]) -> bool
+fn names_no_piece(piece_bytes: &[u8], piece_offsets: &[u32], lookup: &[u32]) -> bool
     ensures { λ r. ⌜ r ≡ any (namesNoPiece (strings (now («piece_bytes» .entry)) (now («piece_offsets» .entry)))) (now (lookup .entry)) ⌝ }
 {
     let mut i = 0;
@@ -45,7 +45,7 @@ fn piece_before(piece_bytes: &[u8], piece_offsets: &[u32], a: u32, b: u32) -> bo
 }
 
 // Whether the piece of each entry stands before that of the next.
-pub fn lookup_ascends(piece_bytes: &[u8], piece_offsets: &[u32], lookup: &[u32]) -> bool
+fn lookup_ascends(piece_bytes: &[u8], piece_offsets: &[u32], lookup: &[u32]) -> bool
     ensures { λ r. ⌜ r ≡ lookupAscends (strings (now («piece_bytes» .entry)) (now («piece_offsets» .entry))) (now (lookup .entry)) ⌝ }
 {
     let mut i = 0;
@@ -75,7 +75,7 @@ fn unlisted(piece_bytes: &[u8], piece_offsets: &[u32], lookup: &[u32], id: usize
 }
 
 // Whether a piece that is not empty is missing from a lookup list that ascends.
-pub fn piece_missing(piece_bytes: &[u8], piece_offsets: &[u32], lookup: &[u32]) -> bool
+fn piece_missing(piece_bytes: &[u8], piece_offsets: &[u32], lookup: &[u32]) -> bool
     requires { ⌜ lookupAscends (strings (now «piece_bytes») (now «piece_offsets»)) (now lookup) ≡ true ⌝ }
     ensures { λ r. ⌜ r ≡ pieceMissing (strings (now («piece_bytes» .entry)) (now («piece_offsets» .entry))) (now (lookup .entry)) ⌝ }
 {

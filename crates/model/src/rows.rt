@@ -1,4 +1,4 @@
-// The tests of the merge rows.
+// Answer 6: the merge rows.
 use crate::compare::equal;
 use crate::compare::is_less;
 use crate::compare::pair_order;
@@ -13,7 +13,7 @@ ghost use Rattle.model.specs.Model.{strings, piece};
 ghost use Rattle.model.specs.Check.{allBelow, rowsAscend, rowsJoin, badRow};
 
 // Whether every id is below `count`.
-pub fn all_below(ids: &[u32], count: usize) -> bool
+fn all_below(ids: &[u32], count: usize) -> bool
     ensures { λ r. ⌜ r ≡ allBelow count (now (ids .entry)) ⌝ }
 {
     let mut i = 0;
@@ -27,7 +27,7 @@ pub fn all_below(ids: &[u32], count: usize) -> bool
 }
 
 // Whether each pair stands before the next.
-pub fn rows_ascend(left: &[u32], right: &[u32]) -> bool
+fn rows_ascend(left: &[u32], right: &[u32]) -> bool
     ensures { λ r. ⌜ r ≡ rowsAscend (now (left .entry)) (now (right .entry)) ⌝ }
 {
     let mut i = 0;
@@ -68,7 +68,7 @@ fn row_joins(piece_bytes: &[u8], piece_offsets: &[u32], left: u32, right: u32, r
 }
 
 // Whether each result's piece is left joined to right.
-pub fn rows_join(
+fn rows_join(
     piece_bytes: &[u8],
     piece_offsets: &[u32],
     left: &[u32],
