@@ -1,0 +1,97 @@
+-- A loop that counts or writes an output part by part: the part at hand is counted where the room allows it, and written where the
+-- whole output fits. Assumes nothing.
+use Prim.Native.Nat.{ℕ, suc, _+_, _-_, _≤_, _<_}
+use native.Mathlib.Nat.{zero-add}
+use native.Mathlib.Omega.{arith}
+use native.Mathlib.Numerals.{add-one}
+use mathlib.Core.Path.{_≡_, refl, sym, ap, _∙_}
+use mathlib.Core.List.{List, [], _∷_, _++_}
+use lib.ListN.{length, take, drop, set, length-append, length-drop}
+use lib.Seq.{take-at, drop-at, drop-drop, take-add, take-append-seam, drop-append-seam, drop-append-add, length-take-le, take-length, set-split, append-snoc}
+use Rattle.normalise.specs.declared.Length.the-variants.{Fits, TooLong}
+use Rattle.normalise.specs.Fit.{fitted}
+use Rattle.normalise.proofs.FitLaws.{fits, too-long}
+
+-- A list is a part and then the rest.
+pub record Begins (whole part rest : List ℕ) : Type 0 where
+  pub is : whole ≡ part ++ rest
+
+-- n bytes of the output are counted, and rest follows them.
+pub record Measured (output rest : List ℕ) (room n : ℕ) : Type 0 where
+  pub within : n ≤ room
+  pub counted : length output ≡ n + length rest
+
+pub measured-start : (output : List ℕ) (room : ℕ) → Measured output output room 0
+measured-start output room = record { within = omega arith; counted = omega arith }
+
+module _ {output whole : List ℕ} {room n : ℕ} (m : Measured output whole room n) where
+  pub measured-ended : whole ≡ [] → Fits n ≡ fitted (length output) room
+  measured-ended e = let all : length output ≡ n = omega (arith, ap length e) in rw (← all) (fits (length output) room (omega arith))
+
+  module _ {part rest : List ℕ} (begins : Begins whole part rest) where
+    count : length output ≡ n + (length part + length rest)
+    count = omega (arith, ap length (begins .is), length-append part rest)
+
+    pub measured-over : room - n < length part → TooLong ≡ fitted (length output) room
+    measured-over h = too-long (length output) room (omega (arith, count))
+
+    pub measured-next : length part ≤ room - n → Measured output rest room (n + length part)
+    measured-next h = record { within = omega (arith, m .within); counted = omega (arith, count) }
+
+-- at bytes of the output stand in out, and rest follows them; behind them out is as it was before.
+pub record Written (output rest before out : List ℕ) (at : ℕ) : Type 0 where
+  pub within : at ≤ length output
+  pub left : drop at output ≡ rest
+  pub front : out ≡ take at output ++ drop at before
+
+pub written-start : (output before : List ℕ) → Written output output before before 0
+written-start output before = record { within = omega arith; left = refl; front = refl }
+
+module _ {output whole before out : List ℕ} {at : ℕ} (room : length output ≤ length before) (w : Written output whole before out at) where
+  taken : length (take at output) ≡ at
+  taken = length-take-le at output (w .within)
+
+  pub written-length : length out ≡ length before
+  written-length = omega (arith, ap length (w .front), length-append (take at output) (drop at before), taken, length-drop at before, w .within)
+
+  pub written-ended : whole ≡ [] → out ≡ output ++ drop (length output) before
+  written-ended e =
+      let all : at ≡ length output = omega (arith, ap length (w .left), ap length e, length-drop at output, w .within) in
+      w .front ∙ rw (all, take-length)
+
+  module _ {part rest : List ℕ} (begins : Begins whole part rest) where
+    reach : at + (length part + length rest) ≡ length output
+    reach = omega (arith, ap length (w .left), ap length (begins .is), length-append part rest, length-drop at output, w .within)
+
+    -- There is room for the part.
+    pub written-fits : at + length part ≤ length out
+    written-fits = omega (arith, reach, written-length)
+
+    pub written-part : Written output rest before (take at out ++ part ++ drop (at + length part) out) (at + length part)
+    written-part =
+        let n = length part in
+        let front-out : take at out ≡ take at output = ap (take at) (w .front) ∙ take-at (take at output) (drop at before) at taken in
+        let back-out : drop (at + n) out ≡ drop (at + n) before =
+        sym (drop-drop n at out) ∙ ap (drop n) (ap (drop at) (w .front) ∙ drop-at (take at output) (drop at before) at taken) ∙ drop-drop n at before in
+        let front-output : take (at + n) output ≡ take at output ++ part =
+        take-add at n output ∙ ap (λ (l : List ℕ). take at output ++ take n l) (w .left ∙ begins .is) ∙ ap (λ (l : List ℕ). take at output ++ l) (take-append-seam part rest) in
+        record {
+          within = omega (arith, reach);
+          left = sym (drop-drop n at output) ∙ ap (drop n) (w .left ∙ begins .is) ∙ drop-append-seam part rest;
+          front = rw (front-out, back-out, front-output);
+        }
+
+  module _ {b : ℕ} {rest : List ℕ} (begins : Begins whole (b ∷ []) rest) where
+    pub written-room : at < length out
+    written-room = omega (arith, written-fits begins)
+
+    pub written-byte : Written output rest before (set out at b) (at + 1)
+    written-byte = rw (set-split out at b written-room, ← append-snoc, ← add-one at) (written-part begins)
+
+-- A buffer after one copy to its front, and after two.
+module _ (a before after : List ℕ) (one : after ≡ take 0 before ++ a ++ drop (0 + length a) before) where
+  pub copied-one : after ≡ a ++ drop (length a) before
+  copied-one = one ∙ rw zero-add
+
+  pub copied-two : (b last : List ℕ) → last ≡ take (length a) after ++ b ++ drop (length a + length b) after → last ≡ (a ++ b) ++ drop (length (a ++ b)) before
+  copied-two b last two = two ∙ rw (copied-one, take-append-seam, drop-append-add, drop-drop, length-append)

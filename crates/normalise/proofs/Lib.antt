@@ -1,0 +1,5 @@
+-- Laws on the definitions of this crate, for its proofs and those of the crates above it.
+pub mod FitLaws
+pub mod Filling
+pub mod HeadLaws
+pub mod StepLaws

@@ -1,0 +1,49 @@
+-- `normalise::prepend::prepend` meets its contract.
+use borrow.Author.Needs.{needs}
+use Rattle.normalise.specs.Steps.{prepended}
+use Rattle.normalise.proofs.FitLaws.{put-within, put-fits, put-too-long}
+use Rattle.normalise.proofs.prepend.prepend.Statement.{statement}
+use Rattle.normalise.proofs.prepend.prepend.Tie as tie
+
+lesser-requires : tie.Need-lesser-requires
+lesser-requires c κs = search needs
+
+prepended-length-requires : tie.Need-prepended-length-requires
+prepended-length-requires c κs = search needs
+
+enum-told : tie.Need-enum-told
+enum-told c = search needs
+
+enum-known-length : tie.Need-enum-known-length
+enum-known-length c = search needs
+
+write-prepended-requires : tie.Need-write-prepended-requires
+write-prepended-requires c κs =
+    let st = c .before .before .before .before .before .before .before .before .before .args in
+    put-within (prepended (st .content .now) (st .text .now)) (st .room) (st .out .now) (c .before .before .before .before .before .lesser .result) (c .before .before .before .before .before .lesser .ensures) (c .before .before .before .before .prepended-length .result) (c .before .before .before .before .prepended-length .ensures) _ (c .before .before .length .given .1)
+
+returns : tie.Need-returns
+returns c =
+    let st = c .before .before .before .before .before .before .before .args in
+    put-too-long (prepended (st .content .now) (st .text .now)) (st .room) (st .out .now) (c .before .before .before .lesser .result) (c .before .before .before .lesser .ensures) (c .before .before .prepended-length .result) (c .before .before .prepended-length .ensures) (c .enum-told .given .1)
+
+same-length : tie.Need-same-length
+same-length c = search needs
+
+returns-2 : tie.Need-returns-2
+returns-2 c =
+    let st = c .before .before .before .before .before .before .before .before .before .before .before .before .args in
+    put-fits (prepended (st .content .now) (st .text .now)) (st .room) (st .out .now) (c .before .before .before .before .before .before .before .before .lesser .result) (c .before .before .before .before .before .before .before .before .lesser .ensures) (c .before .before .before .before .before .before .before .prepended-length .result) (c .before .before .before .before .before .before .before .prepended-length .ensures) _ (c .before .before .before .before .before .length .given .1) (c .before .before .write-prepended .last .1 .1 .0) (c .before .before .write-prepended .ensures)
+
+pub prepend-spec : {M : Type 1} → statement M
+prepend-spec =
+    tie.close
+    (tie.spec
+    lesser-requires
+    prepended-length-requires
+    enum-told
+    enum-known-length
+    write-prepended-requires
+    returns
+    same-length
+    returns-2)

@@ -1,0 +1,23 @@
+// Whether an output has room.
+use crate::Length;
+ghost use mathlib.Core.Path.{_≡_};
+ghost use Prim.Native.Nat.{min};
+ghost use Rattle.normalise.specs.Fit.{fitted};
+
+pub fn fit(n: usize, room: usize) -> Length
+    ensures { λ r. ⌜ r ≡ fitted n room ⌝ }
+{
+    if n <= room {
+        return Length::Fits(n);
+    }
+    Length::TooLong
+}
+
+pub fn lesser(a: usize, b: usize) -> usize
+    ensures { λ r. ⌜ r ≡ min a b ⌝ }
+{
+    if a <= b {
+        return a;
+    }
+    b
+}
