@@ -13,3 +13,13 @@ pub enum Length {
     Fits(usize),
     TooLong,
 }
+
+// Where a text stands while steps run on it, and how long it is there.
+pub enum Ran {
+    // In the text that was given.
+    Given,
+    InA(usize),
+    InB(usize),
+    // An output was too long.
+    TooLong,
+}

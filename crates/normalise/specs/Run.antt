@@ -1,0 +1,58 @@
+-- The run of steps and metaspace, back and forth between two buffers: each output goes where the text does not stand.
+use Prim.Native.Nat.{ℕ}
+use mathlib.Core.Bool.{Bool, true, false}
+use mathlib.Core.List.{List, [], _∷_}
+use lib.ListN.{take}
+use Rattle.model.specs.declared.Step.{Step}
+use Rattle.model.specs.declared.Metaspace.{Metaspace}
+use Rattle.model.specs.declared.Metaspace.the-variants.{Absent, Present}
+use Rattle.normalise.specs.declared.Length.{Length}
+use Rattle.normalise.specs.declared.Length.the-variants as fit
+use Rattle.normalise.specs.declared.Ran.{Ran}
+use Rattle.normalise.specs.declared.Ran.the-variants.{Given, InA, InB, TooLong}
+use Rattle.normalise.specs.Fit.{Put, put}
+use Rattle.normalise.specs.Steps.{applied}
+use Rattle.normalise.specs.Spaces.{spacesMarked, schemePrepends, markPrepended}
+
+-- Where the text stands, and the two buffers.
+pub record Run : Type 0 where
+  pub ran : Ran
+  pub a : List ℕ
+  pub b : List ℕ
+
+-- The text that stands there; text is the one that was given.
+unfoldable pub standing : List ℕ → Ran → List ℕ → List ℕ → List ℕ
+standing text Given a b = text
+standing text (InA n) a b = take n a
+standing text (InB n) a b = take n b
+standing text TooLong a b = []
+
+unfoldable pub inA : Length → Ran
+inA (fit.Fits n) = InA n
+inA fit.TooLong = TooLong
+
+unfoldable pub inB : Length → Ran
+inB (fit.Fits n) = InB n
+inB fit.TooLong = TooLong
+
+-- An output put into the buffer in which the text does not stand; nothing more once one was too long.
+unfoldable pub passed : List ℕ → ℕ → Ran → List ℕ → List ℕ → Run
+passed output room Given a b = let p = put output room a in record { ran = inA (p .length); a = p .out; b = b }
+passed output room (InA n) a b = let p = put output room b in record { ran = inB (p .length); a = a; b = p .out }
+passed output room (InB n) a b = let p = put output room a in record { ran = inA (p .length); a = p .out; b = b }
+passed output room TooLong a b = record { ran = TooLong; a = a; b = b }
+
+-- A step on the text that stands there.
+unfoldable pub stepRun : List ℕ → Step → List ℕ → ℕ → Run → Run
+stepRun bytes step text room run =
+    passed (applied bytes step (standing text (run .ran) (run .a) (run .b))) room (run .ran) (run .a) (run .b)
+
+abbrev pub stepsRun : List ℕ → List Step → List ℕ → ℕ → Run → Run
+stepsRun bytes [] text room run = run
+stepsRun bytes (step ∷ steps) text room run = stepsRun bytes steps text room (stepRun bytes step text room run)
+
+-- Metaspace on the text that stands there.
+unfoldable pub metaspaceRun : Metaspace → Bool → List ℕ → ℕ → Run → Run
+metaspaceRun Absent first text room run = run
+metaspaceRun (Present scheme split) first text room run =
+    passed (markPrepended (schemePrepends scheme first) (spacesMarked (standing text (run .ran) (run .a) (run .b)))) room (run .ran) (run .a) (run .b)
