@@ -5,9 +5,10 @@ use native.Mathlib.Nat.{zero-add}
 use native.Mathlib.Omega.{arith}
 use native.Mathlib.Numerals.{add-one}
 use mathlib.Core.Path.{_≡_, refl, sym, ap, _∙_}
-use mathlib.Core.List.{List, [], _∷_, _++_}
-use lib.ListN.{length, take, drop, set, length-append, length-drop}
+use mathlib.Core.List.{List, [], _∷_, _++_, append-assoc, append-nil}
+use lib.ListN.{length, take, drop, set, length-append, length-drop, drop-of-length-le}
 use lib.Seq.{take-at, drop-at, drop-drop, take-add, take-append-seam, drop-append-seam, drop-append-add, length-take-le, take-length, set-split, append-snoc}
+use Rattle.utf8.proofs.Lists.{part-to-end}
 use Rattle.normalise.specs.declared.Length.the-variants.{Fits, TooLong}
 use Rattle.normalise.specs.Fit.{fitted}
 use Rattle.normalise.proofs.FitLaws.{fits, too-long}
@@ -95,3 +96,12 @@ module _ (a before after : List ℕ) (one : after ≡ take 0 before ++ a ++ drop
 
   pub copied-two : (b last : List ℕ) → last ≡ take (length a) after ++ b ++ drop (length a + length b) after → last ≡ (a ++ b) ++ drop (length (a ++ b)) before
   copied-two b last two = two ∙ rw (copied-one, take-append-seam, drop-append-add, drop-drop, length-append)
+
+  -- After one copy, a callee writes the buffer behind it.
+  pub copied-then : (b last : List ℕ) (w : ℕ) → w ≡ length a → last ≡ b ++ drop (length b) (take (length after - w) (drop w after))
+      → take w after ++ (last ++ drop (length after - w) (drop w after)) ≡ (a ++ b) ++ drop (length (a ++ b)) before
+  copied-then b last w e two =
+      let none : drop (length after - w) (drop w after) ≡ [] = drop-of-length-le (drop w after) {i = length after - w} (omega (arith, length-drop w after)) in
+      let front : take w after ≡ a = rw (e, copied-one, take-append-seam) in
+      let back : drop w after ≡ drop (length a) before = rw (e, copied-one, drop-append-seam) in
+      rw (none, append-nil, two, part-to-end after w, front, back, drop-drop, length-append, append-assoc)

@@ -3,3 +3,4 @@ pub mod FitLaws
 pub mod Filling
 pub mod HeadLaws
 pub mod StepLaws
+pub mod SpaceLaws
