@@ -4,3 +4,4 @@ pub mod Filling
 pub mod HeadLaws
 pub mod StepLaws
 pub mod SpaceLaws
+pub mod RunLaws

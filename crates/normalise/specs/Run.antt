@@ -27,11 +27,11 @@ standing text (InA n) a b = take n a
 standing text (InB n) a b = take n b
 standing text TooLong a b = []
 
-unfoldable pub inA : Length → Ran
+abbrev pub inA : Length → Ran
 inA (fit.Fits n) = InA n
 inA fit.TooLong = TooLong
 
-unfoldable pub inB : Length → Ran
+abbrev pub inB : Length → Ran
 inB (fit.Fits n) = InB n
 inB fit.TooLong = TooLong
 
@@ -42,17 +42,16 @@ passed output room (InA n) a b = let p = put output room b in record { ran = inB
 passed output room (InB n) a b = let p = put output room a in record { ran = inA (p .length); a = p .out; b = b }
 passed output room TooLong a b = record { ran = TooLong; a = a; b = b }
 
--- A step on the text that stands there.
-unfoldable pub stepRun : List ℕ → Step → List ℕ → ℕ → Run → Run
-stepRun bytes step text room run =
-    passed (applied bytes step (standing text (run .ran) (run .a) (run .b))) room (run .ran) (run .a) (run .b)
+-- The text that stands there goes through a step or metaspace.
+unfoldable pub turn : (List ℕ → List ℕ) → List ℕ → ℕ → Run → Run
+turn step text room run = passed (step (standing text (run .ran) (run .a) (run .b))) room (run .ran) (run .a) (run .b)
 
 abbrev pub stepsRun : List ℕ → List Step → List ℕ → ℕ → Run → Run
 stepsRun bytes [] text room run = run
-stepsRun bytes (step ∷ steps) text room run = stepsRun bytes steps text room (stepRun bytes step text room run)
+stepsRun bytes (step ∷ steps) text room run = stepsRun bytes steps text room (turn (applied bytes step) text room run)
 
--- Metaspace on the text that stands there.
+-- Metaspace, where it is present.
 unfoldable pub metaspaceRun : Metaspace → Bool → List ℕ → ℕ → Run → Run
 metaspaceRun Absent first text room run = run
 metaspaceRun (Present scheme split) first text room run =
-    passed (markPrepended (schemePrepends scheme first) (spacesMarked (standing text (run .ran) (run .a) (run .b)))) room (run .ran) (run .a) (run .b)
+    turn (λ (bytes : List ℕ). markPrepended (schemePrepends scheme first) (spacesMarked bytes)) text room run

@@ -7,6 +7,7 @@ pub mod metaspace;
 mod prefix;
 mod prepend;
 mod replace;
+pub mod run;
 pub mod step;
 mod strip;
 

@@ -1,0 +1,95 @@
+-- `normalise::run::run_step` meets its contract: by the turn that each place of the text takes.
+use borrow.Author.Needs.{needs}
+use Rattle.normalise.specs.Steps.{applied}
+use Rattle.normalise.proofs.RunLaws.{turn-given, turn-in-a, turn-in-b, turn-too-long}
+use Rattle.normalise.proofs.run.run_step.Statement.{statement}
+use Rattle.normalise.proofs.run.run_step.Tie as tie
+
+enum-told : tie.Need-enum-told
+enum-told c = search needs
+
+apply-step-requires : tie.Need-apply-step-requires
+apply-step-requires c κs = search needs
+
+in-a-requires : tie.Need-in-a-requires
+in-a-requires c κs = search needs
+
+enum-known-from : tie.Need-enum-known-from
+enum-known-from c = search needs
+
+part-requires : tie.Need-part-requires
+part-requires c κs = search needs
+
+apply-step-requires-2 : tie.Need-apply-step-requires-2
+apply-step-requires-2 c κs = search needs
+
+in-b-requires : tie.Need-in-b-requires
+in-b-requires c κs = search needs
+
+enum-known-from-2 : tie.Need-enum-known-from-2
+enum-known-from-2 c = search needs
+
+part-requires-2 : tie.Need-part-requires-2
+part-requires-2 c κs = search needs
+
+apply-step-requires-3 : tie.Need-apply-step-requires-3
+apply-step-requires-3 c κs = search needs
+
+in-a-requires-2 : tie.Need-in-a-requires-2
+in-a-requires-2 c κs = search needs
+
+enum-told-2 : tie.Need-enum-told-2
+enum-told-2 c = search needs
+
+same-length : tie.Need-same-length
+same-length c = search needs
+
+returns : tie.Need-returns
+returns c = turn-given (applied (c .before .before .before .before .before .before .before .before .before .before .before .args .step-bytes .now) (c .before .before .before .before .before .before .before .before .before .before .before .args .step)) (c .before .before .before .before .before .before .before .before .before .before .before .args .text .now) (c .before .before .before .before .before .before .before .before .before .before .before .args .room) (c .before .before .before .before .before .before .before .before .before .before .before .args .from) (c .before .before .before .before .before .before .before .before .before .before .before .args .a .now) (c .before .before .before .before .before .before .before .before .before .before .before .args .b .now) _ _ _ (c .before .before .before .before .before .enum-told .given .1) (c .before .before .before .apply-step .ensures) (c .in-a .ensures)
+
+same-length-2 : tie.Need-same-length-2
+same-length-2 c = search needs
+
+same-length-3 : tie.Need-same-length-3
+same-length-3 c = search needs
+
+returns-2 : tie.Need-returns-2
+returns-2 c = turn-in-a (applied (c .before .before .before .before .before .before .before .before .before .before .before .before .before .before .args .step-bytes .now) (c .before .before .before .before .before .before .before .before .before .before .before .before .before .before .args .step)) (c .before .before .before .before .before .before .before .before .before .before .before .before .before .before .args .text .now) (c .before .before .before .before .before .before .before .before .before .before .before .before .before .before .args .room) (c .before .before .before .before .before .before .before .before .before .before .before .before .before .before .args .from) (c .before .before .before .before .before .before .before .before .before .before .before .before .before .before .args .a .now) (c .before .before .before .before .before .before .before .before .before .before .before .before .before .before .args .b .now) _ _ _ _ _ (c .before .before .before .before .before .before .before .before .from .given .1) (c .before .before .before .before .before .part .ensures) (c .before .before .before .apply-step2 .ensures) (c .in-b .ensures)
+
+same-length-4 : tie.Need-same-length-4
+same-length-4 c = search needs
+
+same-length-5 : tie.Need-same-length-5
+same-length-5 c = search needs
+
+returns-3 : tie.Need-returns-3
+returns-3 c = turn-in-b (applied (c .before .before .before .before .before .before .before .before .before .before .before .before .before .before .args .step-bytes .now) (c .before .before .before .before .before .before .before .before .before .before .before .before .before .before .args .step)) (c .before .before .before .before .before .before .before .before .before .before .before .before .before .before .args .text .now) (c .before .before .before .before .before .before .before .before .before .before .before .before .before .before .args .room) (c .before .before .before .before .before .before .before .before .before .before .before .before .before .before .args .from) (c .before .before .before .before .before .before .before .before .before .before .before .before .before .before .args .a .now) (c .before .before .before .before .before .before .before .before .before .before .before .before .before .before .args .b .now) _ _ _ _ _ (c .before .before .before .before .before .before .before .before .from2 .given .1) (c .before .before .before .before .before .part2 .ensures) (c .before .before .before .apply-step3 .ensures) (c .in-a2 .ensures)
+
+returns-4 : tie.Need-returns-4
+returns-4 c = turn-too-long (applied (c .before .before .before .before .before .before .args .step-bytes .now) (c .before .before .before .before .before .before .args .step)) (c .before .before .before .before .before .before .args .text .now) (c .before .before .before .before .before .before .args .room) (c .before .before .before .before .before .before .args .from) (c .before .before .before .before .before .before .args .a .now) (c .before .before .before .before .before .before .args .b .now) (c .enum-told2 .given .1)
+
+pub run-step-spec : {M : Type 1} → statement M
+run-step-spec =
+    tie.close
+    (tie.spec
+    enum-told
+    apply-step-requires
+    in-a-requires
+    enum-known-from
+    part-requires
+    apply-step-requires-2
+    in-b-requires
+    enum-known-from-2
+    part-requires-2
+    apply-step-requires-3
+    in-a-requires-2
+    enum-told-2
+    same-length
+    returns
+    same-length-2
+    same-length-3
+    returns-2
+    same-length-4
+    same-length-5
+    returns-3
+    returns-4)

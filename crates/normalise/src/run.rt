@@ -1,0 +1,50 @@
+// The run of steps and metaspace between two buffers. Each output goes where the text does not stand.
+use crate::Length;
+use crate::Ran;
+use crate::metaspace::apply_metaspace;
+use crate::step::apply_step;
+use model::Metaspace;
+use model::Step;
+use model::tables::part;
+ghost use mathlib.Core.Path.{_≡_};
+ghost use lib.ListN.{take};
+ghost use Rattle.normalise.specs.Run.{Run, inA, inB, turn, stepsRun, metaspaceRun};
+ghost use Rattle.normalise.specs.Steps.{applied};
+
+fn in_a(length: Length) -> Ran
+    ensures { λ r. ⌜ r ≡ inA length ⌝ }
+{
+    match length {
+        Length::Fits(n) => Ran::InA(n),
+        Length::TooLong => Ran::TooLong,
+    }
+}
+
+fn in_b(length: Length) -> Ran
+    ensures { λ r. ⌜ r ≡ inB length ⌝ }
+{
+    match length {
+        Length::Fits(n) => Ran::InB(n),
+        Length::TooLong => Ran::TooLong,
+    }
+}
+
+// One step on the text that stands at `from`.
+pub fn run_step(
+    step_bytes: &[u8],
+    step: Step,
+    text: &[u8],
+    room: usize,
+    from: Ran,
+    a: &mut [u8],
+    b: &mut [u8],
+) -> Ran
+    ensures { λ r. ⌜ _≡_ {A = Run} (record { ran = r; a = now (a .exit); b = now (b .exit) }) (turn (applied (now («step_bytes» .entry)) step) (now (text .entry)) room (record { ran = from; a = now (a .entry); b = now (b .entry) })) ⌝ }
+{
+    match from {
+        Ran::Given => in_a(apply_step(step_bytes, step, text, room, a)),
+        Ran::InA(n) => in_b(apply_step(step_bytes, step, part(a, 0, n), room, b)),
+        Ran::InB(n) => in_a(apply_step(step_bytes, step, part(b, 0, n), room, a)),
+        Ran::TooLong => Ran::TooLong,
+    }
+}
