@@ -1,13 +1,19 @@
 -- Laws of the run between two buffers.
 use mathlib.Core.Path.{_≡_, refl, sym, ap, _∙_}
 use mathlib.Core.List.{List, []}
-use Prim.Native.Nat.{ℕ}
-use lib.ListN.{take}
+use Prim.Native.Nat.{ℕ, suc, _+_, _≤_, _<_}
+use native.Mathlib.Numerals.{add-one}
+use native.Mathlib.Omega.{arith}
+use lib.ListN.{getD, take, drop, length-take, drop-of-length-le}
+use lib.ListN as lists
+use lib.Seq.{drop-cons, getD-take}
+use Rattle.model.specs.declared.Step.{Step}
 use Rattle.normalise.specs.declared.Length.{Length}
 use Rattle.normalise.specs.declared.Ran.{Ran}
 use Rattle.normalise.specs.declared.Ran.the-variants.{Given, InA, InB, TooLong}
 use Rattle.normalise.specs.Fit.{Put, put}
-use Rattle.normalise.specs.Run.{Run, standing, inA, inB, passed, turn}
+use Rattle.normalise.specs.Run.{Run, standing, inA, inB, passed, turn, stepsRun}
+use Rattle.normalise.specs.Steps.{applied}
 
 -- One turn, from what a call put into the buffer where the text does not stand.
 module _ (step : List ℕ → List ℕ) (text : List ℕ) (room : ℕ) (from : Ran) (a b : List ℕ) (length : Length) (out : List ℕ) (ran : Ran) where
@@ -26,3 +32,13 @@ module _ (step : List ℕ → List ℕ) (text : List ℕ) (room : ℕ) (from : R
 pub turn-too-long : (step : List ℕ → List ℕ) (text : List ℕ) (room : ℕ) (from : Ran) (a b : List ℕ) → from ≡ TooLong → _≡_ {A = Run} (record { ran = TooLong; a = a; b = b }) (turn step text room (record { ran = from; a = a; b = b }))
 unfolding turn passed
 turn-too-long step text room from a b f = rw f
+
+-- The run of the first count steps, one step more and the end.
+module _ (bytes : List ℕ) (steps : List Step) (count i : ℕ) (text : List ℕ) (room : ℕ) (run : Run) where
+  pub steps-next : (d : Step) → i < count → i < lists.length steps → stepsRun bytes (drop i (take count steps)) text room run ≡ stepsRun bytes (drop (i + 1) (take count steps)) text room (turn (applied bytes (getD steps i d)) text room run)
+  steps-next d h k =
+      let l : i < lists.length (take count steps) = omega (arith, length-take count steps) in
+      rw (add-one, drop-cons (take count steps) i d l, getD-take count steps i d h)
+
+  pub steps-ended : lists.length (take count steps) ≤ i → stepsRun bytes (drop i (take count steps)) text room run ≡ run
+  steps-ended h = rw (drop-of-length-le (take count steps) {i = i} h)
