@@ -5,3 +5,4 @@ pub mod HeadLaws
 pub mod StepLaws
 pub mod SpaceLaws
 pub mod RunLaws
+pub mod FinishLaws

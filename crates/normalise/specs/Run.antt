@@ -1,8 +1,11 @@
 -- The run of steps and metaspace, back and forth between two buffers: each output goes where the text does not stand.
 use Prim.Native.Nat.{ℕ}
-use mathlib.Core.Bool.{Bool, true, false}
+use mathlib.Core.Bool.{Bool, true, false, cond}
 use mathlib.Core.List.{List, [], _∷_}
+use lib.Dec.{ltb}
 use lib.ListN.{take}
+use lib.ListN as lists
+use Rattle.model.specs.Answers.{Outcome, outcome, done, refused}
 use Rattle.model.specs.declared.Step.{Step}
 use Rattle.model.specs.declared.Metaspace.{Metaspace}
 use Rattle.model.specs.declared.Metaspace.the-variants.{Absent, Present}
@@ -55,3 +58,17 @@ unfoldable pub metaspaceRun : Metaspace → Bool → List ℕ → ℕ → Run �
 metaspaceRun Absent first text room run = run
 metaspaceRun (Present scheme split) first text room run =
     turn (λ (bytes : List ℕ). markPrepended (schemePrepends scheme first) (spacesMarked bytes)) text room run
+
+unfoldable pub isTooLong : Ran → Bool
+isTooLong Given = false
+isTooLong (InA n) = false
+isTooLong (InB n) = false
+isTooLong TooLong = true
+
+-- 12, "if the bytes don't fit", and else the result in the buffer.
+unfoldable pub finished : List ℕ → List ℕ → Outcome
+finished result out = outcome (cond (ltb (lists.length out) (lists.length result)) 12 0) 0 (done (lists.length result) 0 0) result out
+
+-- 11, where an output was too long, before 12.
+unfoldable pub ended : Ran → List ℕ → List ℕ → Outcome
+ended ran result out = cond (isTooLong ran) (record { answer = refused 11 0; out = out }) (finished result out)

@@ -2,6 +2,7 @@
 
 mod collapse;
 mod copy;
+mod finish;
 mod fit;
 pub mod metaspace;
 mod prefix;
