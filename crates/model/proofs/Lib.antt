@@ -5,3 +5,4 @@ pub mod RowLaws
 pub mod SearchLaws
 pub mod StringLaws
 pub mod Accepted
+pub mod AnswerLaws

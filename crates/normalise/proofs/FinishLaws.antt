@@ -5,7 +5,7 @@ use Prim.Native.Nat.{ℕ, suc, _+_, _-_, _≤_, _<_}
 use native.Mathlib.Nat.{zero-add}
 use native.Mathlib.Numerals.{add-one}
 use native.Mathlib.Omega.{arith}
-use lib.ListN.{length, take, drop, set, replicate-append-replicate}
+use lib.ListN.{length, take, drop, set, length-replicate, replicate-append-replicate}
 use lib.Seq.{take-suc-set, take-all, take-append-seam, length-front, length-take-le}
 use borrow.Author.Tests.{lt-ltb, le-ltb}
 use Rattle.model.specs.Answers.{zeros, filled, Outcome, outcome, done, refused}
@@ -64,3 +64,7 @@ module _ (text a b out : List ℕ) (ran : Ran) (o : Outcome) where
 pub ended-too-long : (text a b out : List ℕ) (ran : Ran) → ran ≡ TooLong → _≡_ {A = Outcome} (record { answer = refused 11 0; out = out }) (ended ran (standing text ran a b) out)
 unfolding ended isTooLong
 ended-too-long text a b out ran e = rw e
+
+-- A buffer of zeros is known by its length.
+pub all-zeros : (buffer : List ℕ) (k n : ℕ) → buffer ≡ zeros k → length buffer ≡ n → buffer ≡ zeros n
+all-zeros buffer k n e h = e ∙ ap zeros (sym (length-replicate k 0) ∙ ap length (sym e) ∙ h)

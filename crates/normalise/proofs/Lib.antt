@@ -6,3 +6,5 @@ pub mod StepLaws
 pub mod SpaceLaws
 pub mod RunLaws
 pub mod FinishLaws
+pub mod StandLaws
+pub mod NormalLaws

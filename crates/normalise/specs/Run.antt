@@ -5,7 +5,7 @@ use mathlib.Core.List.{List, [], _∷_}
 use lib.Dec.{ltb}
 use lib.ListN.{take}
 use lib.ListN as lists
-use Rattle.model.specs.Answers.{Outcome, outcome, done, refused}
+use Rattle.model.specs.Answers.{Outcome, ScratchOutcome, outcome, done, refused, zeros}
 use Rattle.model.specs.declared.Step.{Step}
 use Rattle.model.specs.declared.Metaspace.{Metaspace}
 use Rattle.model.specs.declared.Metaspace.the-variants.{Absent, Present}
@@ -72,3 +72,14 @@ finished result out = outcome (cond (ltb (lists.length out) (lists.length result
 -- 11, where an output was too long, before 12.
 unfoldable pub ended : Ran → List ℕ → List ℕ → Outcome
 ended ran result out = cond (isTooLong ran) (record { answer = refused 11 0; out = out }) (finished result out)
+
+-- Steps and metaspace on a text, into two buffers.
+unfoldable pub normalRun : List ℕ → List Step → Metaspace → Bool → List ℕ → ℕ → List ℕ → List ℕ → Run
+normalRun bytes steps metaspace first text room a b =
+    metaspaceRun metaspace first text room (stepsRun bytes steps text room (record { ran = Given; a = a; b = b }))
+
+-- What is left of a run: the result, where it came to one, and scratch cleared.
+unfoldable pub settledRun : Run → List ℕ → List ℕ → List ℕ → List ℕ → ScratchOutcome
+settledRun run text out a b =
+    let o = ended (run .ran) (standing text (run .ran) (run .a) (run .b)) out in
+    record { answer = o .answer; out = o .out; scratchA = zeros (lists.length a); scratchB = zeros (lists.length b) }

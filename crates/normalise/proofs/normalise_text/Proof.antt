@@ -1,0 +1,57 @@
+-- `normalise::normalise_text` meets its contract: what its calls leave, put together.
+use mathlib.Core.Path.{_≡_}
+use borrow.Author.Needs.{needs}
+use lib.ListN.{length, take}
+use Rattle.normalise.proofs.FinishLaws.{all-zeros}
+use Rattle.normalise.proofs.NormalLaws.{settled-by}
+use Rattle.normalise.proofs.normalise_text.Statement.{statement}
+use Rattle.normalise.proofs.normalise_text.Tie as tie
+
+lesser-requires : tie.Need-lesser-requires
+lesser-requires c κs = search needs
+
+run-steps-requires : tie.Need-run-steps-requires
+run-steps-requires c κs = search needs
+
+run-if-present-requires : tie.Need-run-if-present-requires
+run-if-present-requires c κs = search needs
+
+end-requires : tie.Need-end-requires
+end-requires c κs = search needs
+
+clear-requires : tie.Need-clear-requires
+clear-requires c κs = search needs
+
+clear-requires-2 : tie.Need-clear-requires-2
+clear-requires-2 c κs = search needs
+
+same-length : tie.Need-same-length
+same-length c = search needs
+
+same-length-2 : tie.Need-same-length-2
+same-length-2 c = search needs
+
+same-length-3 : tie.Need-same-length-3
+same-length-3 c = search needs
+
+returns : tie.Need-returns
+returns c =
+    let st = c .before .before .before .before .before .before .before .before .before .before .before .before .before .before .before .before .before .before .before .before .before .before .before .before .before .before .before .before .before .before .before .before .before .before .args in
+    let same-a : length (c .before .before .before .before .before .before .clear .last .0) ≡ length (st .a .now) = search needs in
+    let same-b : length (c .before .before .clear2 .last .0) ≡ length (st .b .now) = search needs in
+    settled-by (st .step-bytes .now) (take (st .step-count) (st .steps)) (st .metaspace) (st .first) (st .text .now) (st .out .now) (st .a .now) (st .b .now) (c .before .before .before .before .before .before .before .before .before .before .before .before .before .before .before .before .before .before .before .before .before .before .before .before .before .before .before .before .lesser .result) _ _ _ _ _ (c .before .before .before .before .before .before .before .before .before .before .before .before .before .before .before .before .before .before .before .before .before .before .before .before .before .before .before .before .lesser .ensures) (c .before .before .before .before .before .before .before .before .before .before .before .before .before .before .before .before .before .before .before .before .before .before .before .before .before .run-steps .ensures) (c .before .before .before .before .before .before .before .before .before .before .before .before .before .before .before .before .before .before .run-if-present .ensures) (c .before .before .before .before .before .before .before .before .before .before .end .ensures) (all-zeros _ (length (c .before .before .before .before .before .before .before .before .before .before .before .before .before .before .before .before .before .before .run-if-present .last .1 .1 .1 .1 .1 .0)) _ (c .before .before .before .before .before .before .clear .ensures) same-a) (all-zeros _ (length (c .before .before .before .before .before .before .before .before .before .before .before .before .before .before .before .before .before .before .run-if-present .last .1 .1 .1 .1 .1 .1 .0)) _ (c .before .before .clear2 .ensures) same-b)
+
+pub normalise-text-spec : {M : Type 1} → statement M
+normalise-text-spec =
+    tie.close
+    (tie.spec
+    lesser-requires
+    run-steps-requires
+    run-if-present-requires
+    end-requires
+    clear-requires
+    clear-requires-2
+    same-length
+    same-length-2
+    same-length-3
+    returns)
