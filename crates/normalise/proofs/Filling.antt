@@ -68,6 +68,10 @@ module _ {output whole before out : List ℕ} {at : ℕ} (room : length output �
     pub written-fits : at + length part ≤ length out
     written-fits = omega (arith, reach, written-length)
 
+    -- So the place after it is within the buffer that was lent.
+    pub written-next : at + length part ≤ length before
+    written-next = omega (arith, reach, room)
+
     pub written-part : Written output rest before (take at out ++ part ++ drop (at + length part) out) (at + length part)
     written-part =
         let n = length part in
