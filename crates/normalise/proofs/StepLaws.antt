@@ -14,9 +14,10 @@ use Rattle.utf8.specs.Chars.{charWidth, chars}
 use Rattle.utf8.proofs.Lists.{part-to-end}
 use Rattle.utf8.proofs.Cut.{cutBy-step}
 use Rattle.utf8.proofs.Characters.{charWidth-le-length, chars-next, chars-nil}
+use Rattle.utf8.proofs.Starts.{no-elements, not-empty, starts-length, starts-front, same-refl, front-apart}
+use Rattle.utf8.proofs.Writing.{Begins}
 use Rattle.normalise.specs.Steps.{prepended, occurrences, replaced, spaceRun, collapsed}
-use Rattle.normalise.proofs.Filling.{Begins}
-use Rattle.normalise.proofs.HeadLaws.{starts-length, starts-front, same-refl, front-apart, spaceRun-ends}
+use Rattle.normalise.proofs.RunLaws.{spaceRun-ends}
 
 -- A text cut into parts, each put in as f says, from a place on.
 module _ (f : List ℕ → List ℕ) (width : List ℕ → ℕ) (s : List ℕ) (i : ℕ) (inside : i < length s) where
@@ -39,19 +40,11 @@ module _ (f : List ℕ → List ℕ) (width : List ℕ → ℕ) (s : List ℕ) (
 module _ (content text : List ℕ) where
   pub prepended-empty : length text ≡ 0 → prepended content text ≡ []
   unfolding prepended
-  prepended-empty h = go text h
-    where
-      go : (t : List ℕ) → length t ≡ 0 → cond (isEmpty t) t (content ++ t) ≡ []
-      go [] h = refl
-      go (x ∷ t) h = absurd (omega arith)
+  prepended-empty h = rw (no-elements text h)
 
   pub prepended-some : 0 < length text → prepended content text ≡ content ++ text
   unfolding prepended
-  prepended-some h = go text h
-    where
-      go : (t : List ℕ) → 0 < length t → cond (isEmpty t) t (content ++ t) ≡ content ++ t
-      go [] h = absurd (omega arith)
-      go (x ∷ t) h = refl
+  prepended-some h = rw (not-empty text h)
 
   pub prepended-length : 0 < length text → length (prepended content text) ≡ length content + length text
   prepended-length h = ap length (prepended-some h) ∙ length-append content text
@@ -104,11 +97,7 @@ module _ (pattern content s : List ℕ) (i : ℕ) (some : 0 < length pattern) wh
 
   exchanged : (t : List ℕ) → replaced pattern content t ≡ joinMap exchange (cutBy width t)
   unfolding replaced occurrences exchange width
-  exchanged t = go pattern some
-    where
-      go : (p : List ℕ) → 0 < length p → replaced p content t ≡ joinMap (λ (part : List ℕ). cond (same part p) content part) (occurrences p t)
-      go [] h = absurd (omega arith)
-      go (x ∷ p) h = refl
+  exchanged t = rw (not-empty pattern some)
 
   replaced-found : i < length s → startsWith pattern (drop i s) ≡ true
       → Begins (replaced pattern content (drop i s)) content (replaced pattern content (drop (i + length pattern) s))
@@ -144,10 +133,6 @@ match-at pattern content s i test some h e =
     }
 
 -- The empty pattern.
-pub no-bytes : (p : List ℕ) → length p ≡ 0 → p ≡ []
-no-bytes [] h = refl
-no-bytes (x ∷ p) h = absurd (omega arith)
-
 module _ (content s : List ℕ) (i : ℕ) where
   inserted-content : (w : ℕ) → i < length s → w ≡ max 1 (charWidth (drop i s))
       → Begins (replaced [] content (drop i s)) content (take w (drop i s) ++ replaced [] content (drop (i + w) s))

@@ -6,7 +6,7 @@ use borrow.Author.Needs.{needs}
 use lib.ListN.{length, drop}
 use Rattle.normalise.specs.Steps.{collapsed}
 use Rattle.normalise.proofs.StepLaws.{RunAt, run-at, collapsed-ended}
-use Rattle.normalise.proofs.Filling.{Measured, measured-start, measured-next, measured-over, measured-ended}
+use Rattle.normalise.proofs.Measuring.{Measured, measured-start, measured-next, measured-over, measured-ended}
 use Rattle.normalise.proofs.collapse.collapsed_length.Statement.{statement}
 use Rattle.normalise.proofs.collapse.collapsed_length.Tie as tie
 

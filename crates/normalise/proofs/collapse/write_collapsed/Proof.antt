@@ -6,7 +6,7 @@ use borrow.Author.Needs.{needs}
 use lib.ListN.{length, drop}
 use Rattle.normalise.specs.Steps.{collapsed}
 use Rattle.normalise.proofs.StepLaws.{RunAt, run-at, collapsed-ended}
-use Rattle.normalise.proofs.Filling.{Written, written-start, written-length, written-room, written-next, written-byte, written-fits, written-part, written-ended}
+use Rattle.utf8.proofs.Writing.{Written, written-start, written-length, written-room, written-next, written-byte, written-fits, written-part, written-ended}
 use Rattle.normalise.proofs.collapse.write_collapsed.Statement.{statement}
 use Rattle.normalise.proofs.collapse.write_collapsed.Tie as tie
 

@@ -6,7 +6,7 @@ use borrow.Author.Needs.{needs}
 use lib.ListN.{length, drop}
 use Rattle.normalise.specs.Steps.{replaced}
 use Rattle.normalise.proofs.StepLaws.{MatchAt, match-at, replaced-ended}
-use Rattle.normalise.proofs.Filling.{Measured, measured-start, measured-next, measured-over, measured-ended}
+use Rattle.normalise.proofs.Measuring.{Measured, measured-start, measured-next, measured-over, measured-ended}
 use Rattle.normalise.proofs.replace.exchanged_length.Statement.{statement}
 use Rattle.normalise.proofs.replace.exchanged_length.Tie as tie
 
@@ -55,7 +55,9 @@ loop-less : tie.Need-loop-less Inv-loop μ-loop
 loop-less c = omega (arith, here (c .before .before) .ends (c .before .if1 .taken), c .before .before .before .before .before .before .before .before .before .pre)
 
 loop-again : tie.Need-loop-again Inv-loop μ-loop
-loop-again c = (here (c .before .before) .ends (c .before .if1 .taken), measured-next (c .before .before .before .before .before .loop .inv .1) (here (c .before .before) .found (c .before .if1 .taken)) (search needs))
+loop-again c =
+    let h = here (c .before .before) in
+    (omega (arith, h .ends (c .before .if1 .taken), c .before .before .before .before .before .before .before .before .before .pre), measured-next (c .before .before .before .before .before .loop .inv .1) (h .found (c .before .if1 .taken)) (search needs))
 
 sub-if3 : tie.Need-sub-if3 Inv-loop μ-loop
 sub-if3 c = search needs

@@ -8,7 +8,7 @@ use borrow.Author.Needs.{needs}
 use lib.ListN.{length, drop}
 use Rattle.normalise.specs.Steps.{replaced}
 use Rattle.normalise.proofs.StepLaws.{CharAt, char-at, inserted-ended}
-use Rattle.normalise.proofs.Filling.{Measured, measured-start, measured-next, measured-over, measured-ended}
+use Rattle.normalise.proofs.Measuring.{Measured, measured-start, measured-next, measured-over, measured-ended}
 use Rattle.normalise.proofs.replace.inserted_length.Statement.{statement}
 use Rattle.normalise.proofs.replace.inserted_length.Tie as tie
 

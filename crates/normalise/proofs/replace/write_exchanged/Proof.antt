@@ -6,7 +6,7 @@ use borrow.Author.Needs.{needs}
 use lib.ListN.{length, drop}
 use Rattle.normalise.specs.Steps.{replaced}
 use Rattle.normalise.proofs.StepLaws.{MatchAt, match-at, replaced-ended}
-use Rattle.normalise.proofs.Filling.{Written, written-start, written-length, written-room, written-next, written-byte, written-fits, written-part, written-ended}
+use Rattle.utf8.proofs.Writing.{Written, written-start, written-length, written-room, written-next, written-byte, written-fits, written-part, written-ended}
 use Rattle.normalise.proofs.replace.write_exchanged.Statement.{statement}
 use Rattle.normalise.proofs.replace.write_exchanged.Tie as tie
 
@@ -52,7 +52,9 @@ loop-less : tie.Need-loop-less Inv-loop μ-loop
 loop-less c = omega (arith, here (c .before .before .before .before .before) .ends (c .before .before .before .before .if1 .taken), c .before .before .before .before .before .before .before .before .before .before .before .before .before .pre .0)
 
 loop-again : tie.Need-loop-again Inv-loop μ-loop
-loop-again c = (here (c .before .before .before .before .before) .ends (c .before .before .before .before .if1 .taken), rw (c .before .before .copy-at .ensures) (written-part (c .before .before .before .before .before .before .before .before .before .before .before .before .before .pre .1) (c .before .before .before .before .before .before .before .before .loop .inv .1) (here (c .before .before .before .before .before) .found (c .before .before .before .before .if1 .taken))))
+loop-again c =
+    let h = here (c .before .before .before .before .before) in
+    (omega (arith, h .ends (c .before .before .before .before .if1 .taken), c .before .before .before .before .before .before .before .before .before .before .before .before .before .pre .0), rw (c .before .before .copy-at .ensures) (written-part (c .before .before .before .before .before .before .before .before .before .before .before .before .before .pre .1) (c .before .before .before .before .before .before .before .before .loop .inv .1) (h .found (c .before .before .before .before .if1 .taken))))
 
 shared-slice-read-out : tie.Need-shared-slice-read-out Inv-loop μ-loop
 shared-slice-read-out c = search needs

@@ -8,7 +8,7 @@ use borrow.Author.Needs.{needs}
 use lib.ListN.{length, take, drop}
 use Rattle.normalise.specs.Steps.{replaced}
 use Rattle.normalise.proofs.StepLaws.{CharAt, char-at, inserted-ended}
-use Rattle.normalise.proofs.Filling.{Written, written-start, written-length, written-next, written-fits, written-part, written-ended}
+use Rattle.utf8.proofs.Writing.{Written, written-start, written-length, written-next, written-fits, written-part, written-ended}
 use Rattle.normalise.proofs.replace.write_inserted.Statement.{statement}
 use Rattle.normalise.proofs.replace.write_inserted.Tie as tie
 
