@@ -22,7 +22,7 @@ unfolding fitted
 too-long n room h = rw (lt-leb n room h)
 
 -- A length that fits is that of the output, and within the room.
-pub fits-exactly : (n k room : ℕ) → Fits n ≡ fitted k room → (n ≡ k) × (k ≤ room)
+fits-exactly : (n k room : ℕ) → Fits n ≡ fitted k room → (n ≡ k) × (k ≤ room)
 unfolding fitted
 fits-exactly n k room e = ⊎-elim (λ t. (same (rw t at e), leb-true k room t)) (λ t. never (rw t at e)) (either (leb k room))
   where
@@ -32,26 +32,33 @@ fits-exactly n k room e = ⊎-elim (λ t. (same (rw t at e), leb-true k room t))
     never : {A : Type 0} → Fits n ≡ TooLong → A
     never p = let z : _≡_ {A = ℕ} 0 1 = cc in absurd (omega arith)
 
-pub outgrown : (k room : ℕ) → TooLong ≡ fitted k room → leb k room ≡ false
+outgrown : (k room : ℕ) → TooLong ≡ fitted k room → leb k room ≡ false
 unfolding fitted
 outgrown k room e = ⊎-elim (λ t. never (rw t at e)) (λ t. t) (either (leb k room))
   where
     never : {A : Type 0} → TooLong ≡ Fits k → A
     never p = let z : _≡_ {A = ℕ} 0 1 = cc in absurd (omega arith)
 
--- An output that is measured for the lesser of the room and the buffer, and written where it fits, is put as `put` says.
-module _ (result : List ℕ) (room : ℕ) (out : List ℕ) (space : ℕ) (lesser : space ≡ min room (length out)) (l : Length) (measure : l ≡ fitted (length result) space) where
-  exactly : (n : ℕ) → l ≡ Fits n → (n ≡ length result) × (length result ≤ space)
-  exactly n e = fits-exactly n (length result) space (sym e ∙ measure)
+-- The measure of an output for the lesser of the room and the buffer.
+pub record Answered (result : List ℕ) (room : ℕ) (out : List ℕ) (l : Length) : Type 0 where
+  pub is : l ≡ fitted (length result) (min room (length out))
 
-  pub put-within : (n : ℕ) → l ≡ Fits n → length result ≤ length out
-  put-within n e = omega (arith, exactly n e .1)
+pub answered : {result : List ℕ} {room : ℕ} {out : List ℕ} {l : Length} (space : ℕ) → space ≡ min room (length out) → l ≡ fitted (length result) space → Answered result room out l
+answered {result} space lesser measure = record { is = measure ∙ ap (fitted (length result)) lesser }
 
-  pub put-fits : (n : ℕ) → l ≡ Fits n → (after : List ℕ) → after ≡ result ++ drop (length result) out
+-- An output that is so measured, and written where it fits, is put as `put` says.
+module _ {result : List ℕ} {room : ℕ} {out : List ℕ} {l : Length} (a : Answered result room out l) where
+  exactly : (n : ℕ) → l ≡ Fits n → (n ≡ length result) × (length result ≤ min room (length out))
+  exactly n e = fits-exactly n (length result) (min room (length out)) (sym e ∙ a .is)
+
+  pub put-within : {n : ℕ} → l ≡ Fits n → length result ≤ length out
+  put-within {n} e = omega (arith, exactly n e .1)
+
+  pub put-fits : {n : ℕ} → l ≡ Fits n → {after : List ℕ} → after ≡ result ++ drop (length result) out
       → _≡_ {A = Put} (record { length = Fits n; out = after }) (put result room out)
   unfolding put
-  put-fits n e after w = rw (w, le-leb (length result) (min room (length out)) (omega (arith, exactly n e .1)), exactly n e .0)
+  put-fits {n} e w = rw (w, le-leb (length result) (min room (length out)) (exactly n e .1), exactly n e .0)
 
   pub put-too-long : l ≡ TooLong → _≡_ {A = Put} (record { length = TooLong; out = out }) (put result room out)
   unfolding put
-  put-too-long e = rw (← lesser, outgrown (length result) space (sym e ∙ measure))
+  put-too-long e = rw (outgrown (length result) (min room (length out)) (sym e ∙ a .is))

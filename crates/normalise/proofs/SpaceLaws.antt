@@ -12,10 +12,10 @@ use lib.ListN.{length, take, drop, getD, length-append, drop-of-length-le}
 use lib.Seq.{drop-cons, length-take-le}
 use Rattle.utf8.specs.Lists.{isEmpty, all, joinMap, startsWith}
 use Rattle.utf8.proofs.Tests.{either, and-left, and-right}
+use Rattle.utf8.proofs.Starts.{no-elements}
+use Rattle.utf8.proofs.Writing.{Begins}
 use Rattle.model.specs.Mark.{mark}
 use Rattle.normalise.specs.Spaces.{spacesMarked, markPrepended}
-use Rattle.normalise.proofs.Filling.{Begins}
-use Rattle.normalise.proofs.StepLaws.{no-bytes}
 
 pub mark-length : length mark ≡ 3
 unfolding mark
@@ -77,7 +77,7 @@ module _ (wanted : Bool) (t : List ℕ) where
 
   pub lead-empty : length t ≡ 0 → take 0 mark ++ spacesMarked t ≡ markPrepended wanted (spacesMarked t)
   unfolding markPrepended spacesMarked
-  lead-empty e = rw (no-bytes t e, and-false)
+  lead-empty e = rw (no-elements t e, and-false)
 
   lead-begun : startsWith mark (spacesMarked t) ≡ true → take 0 mark ++ spacesMarked t ≡ markPrepended wanted (spacesMarked t)
   unfolding markPrepended

@@ -41,15 +41,15 @@ fn write_collapsed(content: &[u8], text: &[u8], out: &mut [u8])
     let mut i = 0;
     let mut at = 0;
     while i < text.len() {
-        let run = space_run(&text[i..]);
-        if run < 2 {
+        let spaces = space_run(&text[i..]);
+        if spaces < 2 {
             out[at] = text[i];
             at += 1;
             i += 1;
         } else {
             copy_at(out, at, content);
             at += content.len();
-            i += run;
+            i += spaces;
         }
     }
 }

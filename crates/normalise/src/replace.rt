@@ -79,9 +79,10 @@ fn write_exchanged(pattern: &[u8], content: &[u8], text: &[u8], out: &mut [u8])
     let mut at = 0;
     while i < text.len() {
         if starts_with(&text[i..], pattern) {
+            let next = i + pattern.len();
             copy_at(out, at, content);
             at += content.len();
-            i += pattern.len();
+            i = next;
         } else {
             out[at] = text[i];
             at += 1;

@@ -9,3 +9,5 @@ pub mod Characters
 pub mod Valid
 pub mod Last
 pub mod Trim
+pub mod Starts
+pub mod Writing

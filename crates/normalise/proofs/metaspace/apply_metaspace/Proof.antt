@@ -1,9 +1,13 @@
 -- `normalise::metaspace::apply_metaspace` meets its contract.
 use borrow.Author.Needs.{needs}
 use Rattle.normalise.specs.Spaces.{spacesMarked, markPrepended}
-use Rattle.normalise.proofs.FitLaws.{put-within, put-fits, put-too-long}
+use Rattle.normalise.proofs.FitLaws.{Answered, answered, put-within, put-fits, put-too-long}
 use Rattle.normalise.proofs.metaspace.apply_metaspace.Statement.{statement}
 use Rattle.normalise.proofs.metaspace.apply_metaspace.Tie as tie
+
+measure : (c : tie.After-metaspace-length)
+    → Answered (markPrepended (c .before .before .scheme-prepends .result) (spacesMarked (c .before .before .before .before .before .args .text .now))) (c .before .before .before .before .before .args .room) (c .before .before .before .before .before .args .out .now) (c .metaspace-length .result)
+measure c = answered (c .before .lesser .result) (c .before .lesser .ensures) (c .metaspace-length .ensures)
 
 scheme-prepends-requires : tie.Need-scheme-prepends-requires
 scheme-prepends-requires c κs = search needs
@@ -21,22 +25,16 @@ enum-known-length : tie.Need-enum-known-length
 enum-known-length c = search needs
 
 write-metaspace-requires : tie.Need-write-metaspace-requires
-write-metaspace-requires c κs =
-    let st = c .before .before .before .before .before .before .before .before .before .args in
-    put-within (markPrepended (c .before .before .before .before .before .before .scheme-prepends .result) (spacesMarked (st .text .now))) (st .room) (st .out .now) (c .before .before .before .before .before .lesser .result) (c .before .before .before .before .before .lesser .ensures) (c .before .before .before .before .metaspace-length .result) (c .before .before .before .before .metaspace-length .ensures) _ (c .before .before .length .given .1)
+write-metaspace-requires c κs = put-within (measure (c .before .before .before .before)) (c .before .before .length .given .1)
 
 returns : tie.Need-returns
-returns c =
-    let st = c .before .before .before .before .before .before .before .args in
-    rw (← c .before .before .before .before .scheme-prepends .ensures) (put-too-long (markPrepended (c .before .before .before .before .scheme-prepends .result) (spacesMarked (st .text .now))) (st .room) (st .out .now) (c .before .before .before .lesser .result) (c .before .before .before .lesser .ensures) (c .before .before .metaspace-length .result) (c .before .before .metaspace-length .ensures) (c .enum-told .given .1))
+returns c = rw (← c .before .before .before .before .scheme-prepends .ensures) (put-too-long (measure (c .before .before)) (c .enum-told .given .1))
 
 same-length : tie.Need-same-length
 same-length c = search needs
 
 returns-2 : tie.Need-returns-2
-returns-2 c =
-    let st = c .before .before .before .before .before .before .before .before .before .before .before .before .args in
-    rw (← c .before .before .before .before .before .before .before .before .before .scheme-prepends .ensures) (put-fits (markPrepended (c .before .before .before .before .before .before .before .before .before .scheme-prepends .result) (spacesMarked (st .text .now))) (st .room) (st .out .now) (c .before .before .before .before .before .before .before .before .lesser .result) (c .before .before .before .before .before .before .before .before .lesser .ensures) (c .before .before .before .before .before .before .before .metaspace-length .result) (c .before .before .before .before .before .before .before .metaspace-length .ensures) _ (c .before .before .before .before .before .length .given .1) (c .before .before .write-metaspace .last .1 .1 .0) (c .before .before .write-metaspace .ensures))
+returns-2 c = rw (← c .before .before .before .before .before .before .before .before .before .scheme-prepends .ensures) (put-fits (measure (c .before .before .before .before .before .before .before)) (c .before .before .before .before .before .length .given .1) (c .before .before .write-metaspace .ensures))
 
 pub apply-metaspace-spec : {M : Type 1} → statement M
 apply-metaspace-spec =

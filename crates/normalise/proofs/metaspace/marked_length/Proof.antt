@@ -10,7 +10,8 @@ use lib.ListN.{length, drop, getD}
 use Rattle.model.specs.Mark.{mark}
 use Rattle.normalise.specs.Spaces.{spacesMarked}
 use Rattle.normalise.proofs.SpaceLaws.{mark-length, marked-space, marked-byte, marked-ended}
-use Rattle.normalise.proofs.Filling.{Begins, Measured, measured-start, measured-next, measured-over, measured-ended}
+use Rattle.utf8.proofs.Writing.{Begins}
+use Rattle.normalise.proofs.Measuring.{Measured, measured-start, measured-next, measured-over, measured-ended}
 use Rattle.normalise.proofs.metaspace.marked_length.Statement.{statement}
 use Rattle.normalise.proofs.metaspace.marked_length.Tie as tie
 

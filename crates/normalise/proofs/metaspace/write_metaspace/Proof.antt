@@ -9,7 +9,7 @@ use Rattle.utf8.proofs.Lists.{part-to-end}
 use Rattle.model.specs.Mark.{mark}
 use Rattle.normalise.specs.Spaces.{spacesMarked, markPrepended}
 use Rattle.normalise.proofs.SpaceLaws.{lead-length, lead-and-text}
-use Rattle.normalise.proofs.Filling.{copied-then}
+use Rattle.utf8.proofs.Writing.{copied-then}
 use Rattle.normalise.proofs.metaspace.write_metaspace.Statement.{statement}
 use Rattle.normalise.proofs.metaspace.write_metaspace.Tie as tie
 

@@ -9,7 +9,7 @@ use lib.ListN.{length, drop, getD}
 use Rattle.model.specs.Mark.{mark}
 use Rattle.normalise.specs.Spaces.{spacesMarked}
 use Rattle.normalise.proofs.SpaceLaws.{mark-length, marked-space, marked-byte, marked-ended}
-use Rattle.normalise.proofs.Filling.{Begins, Written, written-start, written-length, written-room, written-byte, written-fits, written-part, written-ended}
+use Rattle.utf8.proofs.Writing.{Begins, Written, written-start, written-length, written-room, written-byte, written-fits, written-part, written-ended}
 use Rattle.normalise.proofs.metaspace.write_spaces_marked.Statement.{statement}
 use Rattle.normalise.proofs.metaspace.write_spaces_marked.Tie as tie
 

@@ -5,7 +5,7 @@ use native.Mathlib.Omega.{arith}
 use borrow.Author.Needs.{needs}
 use lib.ListN.{length, drop}
 use Rattle.normalise.specs.Steps.{spaceRun}
-use Rattle.normalise.proofs.HeadLaws.{spaceRun-next, spaceRun-stops, spaceRun-ended}
+use Rattle.normalise.proofs.SpaceRunLaws.{spaceRun-next, spaceRun-stops, spaceRun-ended}
 use Rattle.normalise.proofs.prefix.space_run.Statement.{statement}
 use Rattle.normalise.proofs.prefix.space_run.Tie as tie
 

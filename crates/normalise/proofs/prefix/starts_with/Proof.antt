@@ -4,7 +4,7 @@ use Prim.Native.Nat.{_-_, _≤_}
 use borrow.Author.Needs.{needs}
 use lib.ListN.{length, drop}
 use Rattle.utf8.specs.Lists.{startsWith}
-use Rattle.normalise.proofs.HeadLaws.{starts-next, starts-apart, starts-short, starts-ended}
+use Rattle.utf8.proofs.Starts.{starts-next, starts-apart, starts-short, starts-ended}
 use Rattle.normalise.proofs.prefix.starts_with.Statement.{statement}
 use Rattle.normalise.proofs.prefix.starts_with.Tie as tie
 

@@ -1,7 +1,7 @@
 -- `normalise::prepend::write_prepended` meets its contract.
 use native.Mathlib.Omega.{arith}
 use borrow.Author.Needs.{needs}
-use Rattle.normalise.proofs.Filling.{copied-two}
+use Rattle.utf8.proofs.Writing.{copied-two}
 use Rattle.normalise.proofs.StepLaws.{prepended-empty, prepended-some, prepended-length}
 use Rattle.normalise.proofs.prepend.write_prepended.Statement.{statement}
 use Rattle.normalise.proofs.prepend.write_prepended.Tie as tie

@@ -1,17 +1,12 @@
 -- `normalise::replace::exchanged_length` meets its contract. The loop's invariant: `n` bytes of the output are counted, and those of what
 -- follows from `i` on are left.
-use mathlib.Core.Path.{_≡_, sym, ap, _∙_}
-use mathlib.Core.Bool.{true, false}
-use mathlib.Core.List.{List, [], _∷_}
-use Prim.Native.Nat.{ℕ, _+_, _-_, _≤_, _<_}
+use Prim.Native.Nat.{_-_, _≤_}
 use native.Mathlib.Omega.{arith}
 use borrow.Author.Needs.{needs}
-use lib.ListN.{length, drop, getD}
-use Rattle.utf8.specs.Lists.{startsWith}
-use Rattle.utf8.proofs.Lists.{part-to-end}
+use lib.ListN.{length, drop}
 use Rattle.normalise.specs.Steps.{replaced}
-use Rattle.normalise.proofs.StepLaws.{replaced-byte, replaced-found, replaced-ended, occurrence-ends}
-use Rattle.normalise.proofs.Filling.{Begins, Measured, measured-start, measured-next, measured-over, measured-ended}
+use Rattle.normalise.proofs.StepLaws.{MatchAt, match-at, replaced-ended}
+use Rattle.normalise.proofs.Measuring.{Measured, measured-start, measured-next, measured-over, measured-ended}
 use Rattle.normalise.proofs.replace.exchanged_length.Statement.{statement}
 use Rattle.normalise.proofs.replace.exchanged_length.Tie as tie
 
@@ -21,33 +16,11 @@ Inv-loop pattern content text room i₀ n₀ i n = (i ≤ length text) × Measur
 abbrev μ-loop : tie.MeasureT-loop
 μ-loop pattern content text room i₀ n₀ i n = length text - i
 
-module _ (c : tie.After-starts-with Inv-loop μ-loop) where
-  abbrev pattern : List ℕ
-  pattern = c .before .before .before .before .before .before .before .args .pattern .now
-
-  abbrev content : List ℕ
-  content = c .before .before .before .before .before .before .before .args .content .now
-
-  abbrev text : List ℕ
-  text = c .before .before .before .before .before .before .before .args .text .now
-
-  abbrev place : ℕ
-  place = c .before .before .before .loop .i
-
-  test : c .starts-with .result ≡ startsWith pattern (drop place text)
-  test = c .starts-with .ensures ∙ ap (startsWith pattern) (part-to-end text place)
-
-  ends : c .starts-with .result ≡ true → place + length pattern ≤ length text
-  ends h = occurrence-ends pattern text place (omega arith) (sym test ∙ h)
-
-  found : c .starts-with .result ≡ true → Begins (replaced pattern content (drop place text)) content (replaced pattern content (drop (place + length pattern) text))
-  found h = replaced-found pattern content text place (c .before .before .before .before .before .before .before .pre) (c .before .before .loop-test .taken) (sym test ∙ h)
-
-  byte : c .starts-with .result ≡ false → Begins (replaced pattern content (drop place text)) (getD text place 0 ∷ []) (replaced pattern content (drop (place + 1) text))
-  byte h = replaced-byte pattern content text place (c .before .before .before .before .before .before .before .pre) (c .before .before .loop-test .taken) (sym test ∙ h)
-
-  counted : Measured (replaced pattern content text) (replaced pattern content (drop place text)) (c .before .before .before .before .before .before .before .args .room) (c .before .before .before .loop .n)
-  counted = c .before .before .before .loop .inv .1
+here : (c : tie.After-starts-with Inv-loop μ-loop)
+    → MatchAt (c .before .before .before .before .before .before .before .args .pattern .now) (c .before .before .before .before .before .before .before .args .content .now) (c .before .before .before .before .before .before .before .args .text .now) (c .before .before .before .loop .i) (c .starts-with .result)
+here c =
+    let st = c .before .before .before .before .before .before .before .args in
+    match-at (st .pattern .now) (st .content .now) (st .text .now) (c .before .before .before .loop .i) (c .starts-with .result) (c .before .before .before .before .before .before .before .pre) (c .before .before .loop-test .taken) (c .starts-with .ensures)
 
 loop-holds : tie.Need-loop-holds Inv-loop μ-loop
 loop-holds c =
@@ -70,25 +43,27 @@ sub-if2 : tie.Need-sub-if2 Inv-loop μ-loop
 sub-if2 c = search needs
 
 returns : tie.Need-returns Inv-loop μ-loop
-returns c = measured-over (counted (c .before .before)) (found (c .before .before) (c .before .if1 .taken)) (search needs)
+returns c = measured-over (c .before .before .before .before .before .loop .inv .1) (here (c .before .before) .found (c .before .if1 .taken)) (search needs)
 
 add-n : tie.Need-add-n Inv-loop μ-loop
 add-n c = search needs
 
 add-i : tie.Need-add-i Inv-loop μ-loop
-add-i c = search needs
+add-i c = omega (arith, here (c .before .before) .ends (c .before .if1 .taken))
 
 loop-less : tie.Need-loop-less Inv-loop μ-loop
-loop-less c = omega (arith, ends (c .before .before) (c .before .if1 .taken), c .before .before .before .before .before .before .before .before .before .pre)
+loop-less c = omega (arith, here (c .before .before) .ends (c .before .if1 .taken), c .before .before .before .before .before .before .before .before .before .pre)
 
 loop-again : tie.Need-loop-again Inv-loop μ-loop
-loop-again c = (ends (c .before .before) (c .before .if1 .taken), measured-next (counted (c .before .before)) (found (c .before .before) (c .before .if1 .taken)) (search needs))
+loop-again c =
+    let h = here (c .before .before) in
+    (omega (arith, h .ends (c .before .if1 .taken), c .before .before .before .before .before .before .before .before .before .pre), measured-next (c .before .before .before .before .before .loop .inv .1) (h .found (c .before .if1 .taken)) (search needs))
 
 sub-if3 : tie.Need-sub-if3 Inv-loop μ-loop
 sub-if3 c = search needs
 
 returns-2 : tie.Need-returns-2 Inv-loop μ-loop
-returns-2 c = measured-over (counted (c .before .before)) (byte (c .before .before) (c .before .if1 .left)) (search needs)
+returns-2 c = measured-over (c .before .before .before .before .before .loop .inv .1) (here (c .before .before) .byte (c .before .if1 .left)) (search needs)
 
 add-n-2 : tie.Need-add-n-2 Inv-loop μ-loop
 add-n-2 c = search needs
@@ -100,7 +75,7 @@ loop-less-2 : tie.Need-loop-less-2 Inv-loop μ-loop
 loop-less-2 c = search needs
 
 loop-again-2 : tie.Need-loop-again-2 Inv-loop μ-loop
-loop-again-2 c = (search needs, measured-next (counted (c .before .before)) (byte (c .before .before) (c .before .if1 .left)) (search needs))
+loop-again-2 c = (search needs, measured-next (c .before .before .before .before .before .loop .inv .1) (here (c .before .before) .byte (c .before .if1 .left)) (search needs))
 
 returns-3 : tie.Need-returns-3 Inv-loop μ-loop
 returns-3 c =

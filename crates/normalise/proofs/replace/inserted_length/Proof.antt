@@ -1,17 +1,14 @@
 -- `normalise::replace::inserted_length` meets its contract. The loop's invariant: `n` bytes of the output are counted, and those of what
 -- follows from `i` on are left.
-use mathlib.Core.Path.{_≡_, refl, ap, _∙_}
-use mathlib.Core.List.{List, [], _++_}
-use Prim.Native.Nat.{ℕ, _+_, _-_, _≤_, _<_, max}
+use mathlib.Core.Path.{refl}
+use mathlib.Core.List.{[]}
+use Prim.Native.Nat.{_-_, _≤_}
 use native.Mathlib.Omega.{arith}
 use borrow.Author.Needs.{needs}
-use lib.ListN.{length, take, drop, length-drop}
-use lib.Seq.{length-take-le}
-use Rattle.utf8.specs.Chars.{charWidth}
-use Rattle.utf8.proofs.Lists.{part-to-end}
+use lib.ListN.{length, drop}
 use Rattle.normalise.specs.Steps.{replaced}
-use Rattle.normalise.proofs.StepLaws.{inserted-content, inserted-ended, char-step-ends}
-use Rattle.normalise.proofs.Filling.{Begins, Measured, measured-start, measured-next, measured-over, measured-ended}
+use Rattle.normalise.proofs.StepLaws.{CharAt, char-at, inserted-ended}
+use Rattle.normalise.proofs.Measuring.{Measured, measured-start, measured-next, measured-over, measured-ended}
 use Rattle.normalise.proofs.replace.inserted_length.Statement.{statement}
 use Rattle.normalise.proofs.replace.inserted_length.Tie as tie
 
@@ -21,43 +18,8 @@ Inv-loop content text room i₀ n₀ i n = (i ≤ length text) × Measured (repl
 abbrev μ-loop : tie.MeasureT-loop
 μ-loop content text room i₀ n₀ i n = length text - i
 
-module _ (c : tie.After-char-step Inv-loop μ-loop) where
-  abbrev content : List ℕ
-  content = c .before .before .before .before .before .before .args .content .now
-
-  abbrev text : List ℕ
-  text = c .before .before .before .before .before .before .args .text .now
-
-  abbrev place : ℕ
-  place = c .before .before .before .loop .i
-
-  abbrev w : ℕ
-  w = c .char-step .result
-
-  width : w ≡ max 1 (charWidth (drop place text))
-  width = c .char-step .ensures ∙ ap (λ (l : List ℕ). max 1 (charWidth l)) (part-to-end text place)
-
-  ends : place + w ≤ length text
-  ends = omega (arith, width, char-step-ends text place (c .before .before .loop-test .taken))
-
-  -- The character.
-  abbrev front : List ℕ
-  front = take w (drop place text)
-
-  front-length : length front ≡ w
-  front-length = length-take-le w (drop place text) (omega (arith, ends, length-drop place text))
-
-  abbrev rest : List ℕ
-  rest = replaced [] content (drop (place + w) text)
-
-  first : Begins (replaced [] content (drop place text)) content (front ++ rest)
-  first = inserted-content content text place w (c .before .before .loop-test .taken) width
-
-  second : Begins (front ++ rest) front rest
-  second = record { is = refl }
-
-  counted : Measured (replaced [] content text) (replaced [] content (drop place text)) (c .before .before .before .before .before .before .args .room) (c .before .before .before .loop .n)
-  counted = c .before .before .before .loop .inv .1
+here : (c : tie.After-char-step Inv-loop μ-loop) → CharAt (c .before .before .before .before .before .before .args .content .now) (c .before .before .before .before .before .before .args .text .now) (c .before .before .before .loop .i) (c .char-step .result)
+here c = char-at (c .before .before .before .before .before .before .args .content .now) (c .before .before .before .before .before .before .args .text .now) (c .before .before .before .loop .i) (c .char-step .result) (c .before .before .loop-test .taken) (c .char-step .ensures)
 
 loop-holds : tie.Need-loop-holds Inv-loop μ-loop
 loop-holds c =
@@ -80,7 +42,7 @@ sub-if1 : tie.Need-sub-if1 Inv-loop μ-loop
 sub-if1 c = search needs
 
 returns : tie.Need-returns Inv-loop μ-loop
-returns c = measured-over (counted (c .before)) (first (c .before)) (search needs)
+returns c = measured-over (c .before .before .before .before .loop .inv .1) (here (c .before) .first) (search needs)
 
 add-n : tie.Need-add-n Inv-loop μ-loop
 add-n c = search needs
@@ -89,21 +51,21 @@ sub-if2 : tie.Need-sub-if2 Inv-loop μ-loop
 sub-if2 c = search needs
 
 returns-2 : tie.Need-returns-2 Inv-loop μ-loop
-returns-2 c = measured-over (measured-next (counted (c .before .before)) (first (c .before .before)) (search needs)) (second (c .before .before)) (omega (arith, front-length (c .before .before)))
+returns-2 c = measured-over (measured-next (c .before .before .before .before .before .loop .inv .1) (here (c .before .before) .first) (search needs)) (here (c .before .before) .second) (omega (arith, here (c .before .before) .wide))
 
 add-n-2 : tie.Need-add-n-2 Inv-loop μ-loop
 add-n-2 c = search needs
 
 add-i : tie.Need-add-i Inv-loop μ-loop
-add-i c = omega (arith, ends (c .before .before))
+add-i c = omega (arith, here (c .before .before) .ends)
 
 loop-less : tie.Need-loop-less Inv-loop μ-loop
-loop-less c = omega (arith, ends (c .before .before), width (c .before .before))
+loop-less c = omega (arith, here (c .before .before) .ends, here (c .before .before) .some)
 
 loop-again : tie.Need-loop-again Inv-loop μ-loop
 loop-again c =
-    let b = c .before .before in
-    (ends b, rw (front-length b) at (measured-next (measured-next (counted b) (first b) (search needs)) (second b) (omega (arith, front-length b))))
+    let h = here (c .before .before) in
+    (h .ends, rw (h .wide) at (measured-next (measured-next (c .before .before .before .before .before .loop .inv .1) (h .first) (search needs)) (h .second) (omega (arith, h .wide))))
 
 sub-if3 : tie.Need-sub-if3 Inv-loop μ-loop
 sub-if3 c = search needs

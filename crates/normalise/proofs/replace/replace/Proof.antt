@@ -1,9 +1,12 @@
 -- `normalise::replace::replace` meets its contract.
 use borrow.Author.Needs.{needs}
 use Rattle.normalise.specs.Steps.{replaced}
-use Rattle.normalise.proofs.FitLaws.{put-within, put-fits, put-too-long}
+use Rattle.normalise.proofs.FitLaws.{Answered, answered, put-within, put-fits, put-too-long}
 use Rattle.normalise.proofs.replace.replace.Statement.{statement}
 use Rattle.normalise.proofs.replace.replace.Tie as tie
+
+measure : (c : tie.After-replaced-length) → Answered (replaced (c .before .before .before .before .before .before .args .pattern .now) (c .before .before .before .before .before .before .args .content .now) (c .before .before .before .before .before .before .args .text .now)) (c .before .before .before .before .before .before .args .room) (c .before .before .before .before .before .before .args .out .now) (c .replaced-length .result)
+measure c = answered (c .before .lesser .result) (c .before .lesser .ensures) (c .replaced-length .ensures)
 
 lesser-requires : tie.Need-lesser-requires
 lesser-requires c κs = search needs
@@ -18,22 +21,16 @@ enum-known-length : tie.Need-enum-known-length
 enum-known-length c = search needs
 
 write-replaced-requires : tie.Need-write-replaced-requires
-write-replaced-requires c κs =
-    let st = c .before .before .before .before .before .before .before .before .before .before .args in
-    put-within (replaced (st .pattern .now) (st .content .now) (st .text .now)) (st .room) (st .out .now) (c .before .before .before .before .before .lesser .result) (c .before .before .before .before .before .lesser .ensures) (c .before .before .before .before .replaced-length .result) (c .before .before .before .before .replaced-length .ensures) _ (c .before .before .length .given .1)
+write-replaced-requires c κs = put-within (measure (c .before .before .before .before)) (c .before .before .length .given .1)
 
 returns : tie.Need-returns
-returns c =
-    let st = c .before .before .before .before .before .before .before .before .args in
-    put-too-long (replaced (st .pattern .now) (st .content .now) (st .text .now)) (st .room) (st .out .now) (c .before .before .before .lesser .result) (c .before .before .before .lesser .ensures) (c .before .before .replaced-length .result) (c .before .before .replaced-length .ensures) (c .enum-told .given .1)
+returns c = put-too-long (measure (c .before .before)) (c .enum-told .given .1)
 
 same-length : tie.Need-same-length
 same-length c = search needs
 
 returns-2 : tie.Need-returns-2
-returns-2 c =
-    let st = c .before .before .before .before .before .before .before .before .before .before .before .before .before .args in
-    put-fits (replaced (st .pattern .now) (st .content .now) (st .text .now)) (st .room) (st .out .now) (c .before .before .before .before .before .before .before .before .lesser .result) (c .before .before .before .before .before .before .before .before .lesser .ensures) (c .before .before .before .before .before .before .before .replaced-length .result) (c .before .before .before .before .before .before .before .replaced-length .ensures) _ (c .before .before .before .before .before .length .given .1) (c .before .before .write-replaced .last .1 .1 .1 .0) (c .before .before .write-replaced .ensures)
+returns-2 c = put-fits (measure (c .before .before .before .before .before .before .before)) (c .before .before .before .before .before .length .given .1) (c .before .before .write-replaced .ensures)
 
 pub replace-spec : {M : Type 1} → statement M
 replace-spec =

@@ -1,6 +1,6 @@
 -- `normalise::replace::replaced_length` meets its contract.
 use borrow.Author.Needs.{needs}
-use Rattle.normalise.proofs.StepLaws.{no-bytes}
+use Rattle.utf8.proofs.Starts.{no-elements}
 use Rattle.normalise.proofs.replace.replaced_length.Statement.{statement}
 use Rattle.normalise.proofs.replace.replaced_length.Tie as tie
 
@@ -8,7 +8,7 @@ inserted-length-requires : tie.Need-inserted-length-requires
 inserted-length-requires c κs = search needs
 
 returns : tie.Need-returns
-returns c = rw (no-bytes (c .before .before .before .before .before .args .pattern .now) (c .before .if1 .taken)) (c .inserted-length .ensures)
+returns c = rw (no-elements (c .before .before .before .before .before .args .pattern .now) (c .before .if1 .taken)) (c .inserted-length .ensures)
 
 exchanged-length-requires : tie.Need-exchanged-length-requires
 exchanged-length-requires c κs = search needs

@@ -1,17 +1,14 @@
 -- `normalise::replace::write_inserted` meets its contract. The loop's invariant: `at` bytes of the output are written, and those of what
 -- follows from `i` on are left.
-use mathlib.Core.Path.{_≡_, refl, ap, _∙_}
+use mathlib.Core.Path.{_≡_, refl, _∙_}
 use mathlib.Core.List.{List, [], _++_}
-use Prim.Native.Nat.{ℕ, _+_, _-_, _≤_, _<_, max}
+use Prim.Native.Nat.{ℕ, _+_, _-_, _≤_}
 use native.Mathlib.Omega.{arith}
 use borrow.Author.Needs.{needs}
-use lib.ListN.{length, take, drop, length-drop}
-use lib.Seq.{length-take-le}
-use Rattle.utf8.specs.Chars.{charWidth}
-use Rattle.utf8.proofs.Lists.{part-to-end}
+use lib.ListN.{length, take, drop}
 use Rattle.normalise.specs.Steps.{replaced}
-use Rattle.normalise.proofs.StepLaws.{inserted-content, inserted-ended, char-step-ends}
-use Rattle.normalise.proofs.Filling.{Begins, Written, written-start, written-length, written-fits, written-part, written-ended}
+use Rattle.normalise.proofs.StepLaws.{CharAt, char-at, inserted-ended}
+use Rattle.utf8.proofs.Writing.{Written, written-start, written-length, written-next, written-fits, written-part, written-ended}
 use Rattle.normalise.proofs.replace.write_inserted.Statement.{statement}
 use Rattle.normalise.proofs.replace.write_inserted.Tie as tie
 
@@ -34,41 +31,18 @@ module _ (c : tie.After-char-step Inv-loop μ-loop) where
   abbrev w : ℕ
   w = c .char-step .result
 
-  width : w ≡ max 1 (charWidth (drop place text))
-  width = c .char-step .ensures ∙ ap (λ (l : List ℕ). max 1 (charWidth l)) (part-to-end text place)
-
-  ends : place + w ≤ length text
-  ends = omega (arith, width, char-step-ends text place (c .before .before .loop-test .taken))
-
-  -- The character.
-  abbrev front : List ℕ
-  front = take w (drop place text)
-
-  front-length : length front ≡ w
-  front-length = length-take-le w (drop place text) (omega (arith, ends, length-drop place text))
-
-  abbrev rest : List ℕ
-  rest = replaced [] content (drop (place + w) text)
-
-  first : Begins (replaced [] content (drop place text)) content (front ++ rest)
-  first = inserted-content content text place w (c .before .before .loop-test .taken) width
-
-  second : Begins (front ++ rest) front rest
-  second = record { is = refl }
-
-  room : length (replaced [] content text) ≤ length (c .before .before .before .before .before .before .before .args .out .now)
-  room = c .before .before .before .before .before .before .before .pre
-
-  written : Written (replaced [] content text) (replaced [] content (drop place text)) (c .before .before .before .before .before .before .before .args .out .now) (c .before .before .before .loop .out) (c .before .before .before .loop .at)
-  written = c .before .before .before .loop .inv .1
+  here : CharAt content text place w
+  here = char-at content text place w (c .before .before .loop-test .taken) (c .char-step .ensures)
 
   whole : place + w - place ≡ w
   whole = omega arith
 
 -- The content is written, and the character is still to write.
 once : (c : tie.After-copy-at Inv-loop μ-loop)
-    → Written (replaced [] (content (c .before .before)) (text (c .before .before))) (front (c .before .before) ++ rest (c .before .before)) (c .before .before .before .before .before .before .before .before .before .args .out .now) (c .copy-at .last .0) (c .before .before .before .before .before .loop .at + length (content (c .before .before)))
-once c = rw (c .copy-at .ensures) (written-part (room (c .before .before)) (written (c .before .before)) (first (c .before .before)))
+    → Written (replaced [] (content (c .before .before)) (text (c .before .before)))
+    (take (w (c .before .before)) (drop (place (c .before .before)) (text (c .before .before))) ++ replaced [] (content (c .before .before)) (drop (place (c .before .before) + w (c .before .before)) (text (c .before .before))))
+    (c .before .before .before .before .before .before .before .before .before .args .out .now) (c .copy-at .last .0) (c .before .before .before .before .before .loop .at + length (content (c .before .before)))
+once c = rw (c .copy-at .ensures) (written-part (c .before .before .before .before .before .before .before .before .before .pre) (c .before .before .before .before .before .loop .inv .1) (here (c .before .before) .first))
 
 loop-holds : tie.Need-loop-holds Inv-loop μ-loop
 loop-holds c =
@@ -88,13 +62,13 @@ char-step-requires : tie.Need-char-step-requires Inv-loop μ-loop
 char-step-requires c κs = search needs
 
 copy-at-requires : tie.Need-copy-at-requires Inv-loop μ-loop
-copy-at-requires c κs = written-fits (room (c .before)) (written (c .before)) (first (c .before))
+copy-at-requires c κs = written-fits (c .before .before .before .before .before .before .before .before .pre) (c .before .before .before .before .loop .inv .1) (here (c .before) .first)
 
 add-at : tie.Need-add-at Inv-loop μ-loop
-add-at c = omega (arith, written-fits (room (c .before .before .before .before)) (written (c .before .before .before .before)) (first (c .before .before .before .before)), written-length (room (c .before .before .before .before)) (written (c .before .before .before .before)))
+add-at c = omega (arith, written-next (c .before .before .before .before .before .before .before .before .before .before .before .pre) (c .before .before .before .before .before .before .before .loop .inv .1) (here (c .before .before .before .before) .first))
 
 add-next : tie.Need-add-next Inv-loop μ-loop
-add-next c = omega (arith, ends (c .before .before .before .before))
+add-next c = omega (arith, here (c .before .before .before .before) .ends)
 
 sub-copy-at : tie.Need-sub-copy-at Inv-loop μ-loop
 sub-copy-at c = search needs
@@ -103,23 +77,21 @@ part-copy-at-start : tie.Need-part-copy-at-start Inv-loop μ-loop
 part-copy-at-start c = search needs
 
 part-copy-at-end : tie.Need-part-copy-at-end Inv-loop μ-loop
-part-copy-at-end c = ends (c .before .before .before .before .before)
+part-copy-at-end c = here (c .before .before .before .before .before) .ends
 
 copy-at-requires-2 : tie.Need-copy-at-requires-2 Inv-loop μ-loop
-copy-at-requires-2 c κs = rw (whole (c .before .before .before .before .before .before)) (written-fits (room (c .before .before .before .before .before .before)) (once (c .before .before .before .before)) (second (c .before .before .before .before .before .before)))
+copy-at-requires-2 c κs = rw (whole (c .before .before .before .before .before .before)) (written-fits (c .before .before .before .before .before .before .before .before .before .before .before .before .before .pre) (once (c .before .before .before .before)) (here (c .before .before .before .before .before .before) .second))
 
 add-at-2 : tie.Need-add-at-2 Inv-loop μ-loop
-add-at-2 c =
-    let fits = rw (front-length (c .before .before .before .before .before .before .before .before .before)) at (written-fits (room (c .before .before .before .before .before .before .before .before .before)) (once (c .before .before .before .before .before .before .before)) (second (c .before .before .before .before .before .before .before .before .before))) in
-    omega (arith, fits, written-length (room (c .before .before .before .before .before .before .before .before .before)) (once (c .before .before .before .before .before .before .before)))
+add-at-2 c = omega (arith, written-next (c .before .before .before .before .before .before .before .before .before .before .before .before .before .before .before .before .pre) (once (c .before .before .before .before .before .before .before)) (here (c .before .before .before .before .before .before .before .before .before) .second), here (c .before .before .before .before .before .before .before .before .before) .wide)
 
 loop-less : tie.Need-loop-less Inv-loop μ-loop
-loop-less c = omega (arith, ends (c .before .before .before .before .before .before .before .before .before), width (c .before .before .before .before .before .before .before .before .before))
+loop-less c = omega (arith, here (c .before .before .before .before .before .before .before .before .before) .ends, here (c .before .before .before .before .before .before .before .before .before) .some)
 
 loop-again : tie.Need-loop-again Inv-loop μ-loop
 loop-again c =
-    let b = c .before .before .before .before .before .before .before .before .before in
-    (ends b, rw (c .before .before .copy-at2 .ensures, whole b, front-length b) (rw (front-length b) at (written-part (room b) (once (c .before .before .before .before .before .before .before)) (second b))))
+    let h = here (c .before .before .before .before .before .before .before .before .before) in
+    (h .ends, rw (c .before .before .copy-at2 .ensures, whole (c .before .before .before .before .before .before .before .before .before), h .wide) (rw (h .wide) at (written-part (c .before .before .before .before .before .before .before .before .before .before .before .before .before .before .before .before .pre) (once (c .before .before .before .before .before .before .before)) (h .second))))
 
 copy-at-requires-3 : tie.Need-copy-at-requires-3 Inv-loop μ-loop
 copy-at-requires-3 c κs =

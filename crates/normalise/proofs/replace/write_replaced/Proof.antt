@@ -1,17 +1,17 @@
 -- `normalise::replace::write_replaced` meets its contract.
 use borrow.Author.Needs.{needs}
-use Rattle.normalise.proofs.StepLaws.{no-bytes}
+use Rattle.utf8.proofs.Starts.{no-elements}
 use Rattle.normalise.proofs.replace.write_replaced.Statement.{statement}
 use Rattle.normalise.proofs.replace.write_replaced.Tie as tie
 
 write-inserted-requires : tie.Need-write-inserted-requires
-write-inserted-requires c κs = rw (no-bytes (c .before .before .before .before .before .before .args .pattern .now) (c .before .if1 .taken)) at (c .before .before .before .before .before .before .pre)
+write-inserted-requires c κs = rw (no-elements (c .before .before .before .before .before .before .args .pattern .now) (c .before .if1 .taken)) at (c .before .before .before .before .before .before .pre)
 
 same-length : tie.Need-same-length
 same-length c = search needs
 
 returns : tie.Need-returns
-returns c = rw (no-bytes (c .before .before .before .before .before .before .before .before .before .args .pattern .now) (c .before .before .before .before .if1 .taken)) (c .before .before .write-inserted .ensures)
+returns c = rw (no-elements (c .before .before .before .before .before .before .before .before .before .args .pattern .now) (c .before .before .before .before .if1 .taken)) (c .before .before .write-inserted .ensures)
 
 write-exchanged-requires : tie.Need-write-exchanged-requires
 write-exchanged-requires c κs = search needs

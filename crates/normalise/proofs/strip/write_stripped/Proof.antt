@@ -3,7 +3,7 @@ use mathlib.Core.Path.{ap}
 use native.Mathlib.Omega.{arith}
 use lib.ListN.{length}
 use borrow.Author.Needs.{needs}
-use Rattle.normalise.proofs.Filling.{copied-one}
+use Rattle.utf8.proofs.Writing.{copied-one}
 use Rattle.normalise.proofs.strip.write_stripped.Statement.{statement}
 use Rattle.normalise.proofs.strip.write_stripped.Tie as tie
 

@@ -1,4 +1,4 @@
--- Laws of what stands at the head of a text. Assumes nothing.
+-- Laws of what a list starts with. Assumes nothing.
 use Prim.Native.Nat.{ℕ, zero, suc, _+_, _≤_, _<_}
 use native.Mathlib.Omega.{arith}
 use native.Mathlib.Numerals.{add-one}
@@ -8,11 +8,19 @@ use mathlib.Core.Logic.{⊎-elim}
 use mathlib.Core.List.{List, [], _∷_}
 use borrow.Author.Tests.{eqb-true, eq-eqb, ne-eqb}
 use lib.Dec.{eqb}
-use lib.ListN.{length, take, drop, getD, length-drop, drop-of-length-le}
+use lib.ListN.{length, take, drop, getD, drop-of-length-le}
 use lib.Seq.{drop-cons}
-use Rattle.utf8.specs.Lists.{takeWhile, startsWith, same}
+use Rattle.utf8.specs.Lists.{isEmpty, startsWith, same}
 use Rattle.utf8.proofs.Tests.{either, and-left, and-right, and-both, clash}
-use Rattle.normalise.specs.Steps.{spaceRun}
+
+module _ {ℓ} {A : Type ℓ} where
+  pub no-elements : (l : List A) → length l ≡ 0 → l ≡ []
+  no-elements [] h = refl
+  no-elements (x ∷ l) h = absurd (omega arith)
+
+  pub not-empty : (l : List A) → 0 < length l → isEmpty l ≡ false
+  not-empty [] h = absurd (omega arith)
+  not-empty (x ∷ l) h = refl
 
 -- Two texts beside each other, from a place on.
 module _ (p t : List ℕ) (i : ℕ) where
@@ -61,28 +69,3 @@ same-eq (x ∷ p) (y ∷ q) e = ap₂ {C = List ℕ} _∷_ (eqb-true x y (and-le
 -- No front is what a text does not start with.
 pub front-apart : (n : ℕ) (p t : List ℕ) → startsWith p t ≡ false → same (take n t) p ≡ false
 front-apart n p t e = ⊎-elim (λ s. clash e (ap (λ (l : List ℕ). startsWith l t) (sym (same-eq (take n t) p s)) ∙ starts-take n t)) (λ s. s) (either (same (take n t) p))
-
-pub spaceRun-length : (t : List ℕ) → length (spaceRun t) ≤ length t
-unfolding spaceRun
-spaceRun-length t = go t
-  where
-    go : (t : List ℕ) → length (takeWhile (eqb 0x20) t) ≤ length t
-    go [] = omega arith
-    go (b ∷ t) = ⊎-elim (λ e. rw e (omega (arith, go t))) (λ e. rw e (omega arith)) (either (eqb 0x20 b))
-
-module _ (s : List ℕ) (i : ℕ) where
-  pub spaceRun-next : i < length s → getD s i 0 ≡ 0x20 → length (spaceRun (drop i s)) ≡ 1 + length (spaceRun (drop (i + 1) s))
-  unfolding spaceRun
-  spaceRun-next h e = rw (add-one, drop-cons s i 0 h, eq-eqb 0x20 (getD s i 0) (sym e)) (omega arith)
-
-  pub spaceRun-stops : i < length s → (getD s i 0 ≡ 0x20 → ⊥) → length (spaceRun (drop i s)) ≡ 0
-  unfolding spaceRun
-  spaceRun-stops h e = rw (drop-cons s i 0 h, ne-eqb 0x20 (getD s i 0) (λ p. e (sym p)))
-
-  pub spaceRun-ended : length s ≤ i → length (spaceRun (drop i s)) ≡ 0
-  unfolding spaceRun
-  spaceRun-ended h = rw (drop-of-length-le s h)
-
-  -- The run at a place ends within the text.
-  pub spaceRun-ends : i ≤ length s → i + length (spaceRun (drop i s)) ≤ length s
-  spaceRun-ends h = omega (arith, spaceRun-length (drop i s), length-drop i s)
