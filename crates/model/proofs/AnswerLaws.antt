@@ -1,17 +1,16 @@
 -- Laws of the lowest number that applies.
 use mathlib.Core.Path.{_≡_, refl, sym, _∙_}
 use mathlib.Core.Bool.{Bool, true, false, cond, _&&_}
-use mathlib.Core.Logic.{⊎-elim}
 use mathlib.Core.List.{List, [], _∷_, _++_}
 use Prim.Native.Nat.{ℕ, _≤_, _<_, zero-le}
 use native.Mathlib.Omega.{arith}
-use borrow.Author.Tests.{ltb-true, leb-true}
-use lib.Dec.{leb, ltb}
+use borrow.Author.Tests.{ltb-true, leb-true, eqb-true, ne-eqb}
+use lib.Dec.{eqb, leb, ltb}
 use Rattle.utf8.specs.Lists.{all}
-use Rattle.utf8.proofs.Tests.{either, and-left, and-right}
+use Rattle.utf8.proofs.Tests.{and-left, and-right}
 use Rattle.model.specs.Model.{Model}
-use Rattle.model.specs.Answers.{lowest}
-use Rattle.model.specs.Check.{wrongSizes, textTooLong, modelTests, checkNumber}
+use Rattle.model.specs.Answers.{lowest, refused}
+use Rattle.model.specs.Check.{wrongSizes, textTooLong, modelTests, checkNumber, checkOutcome}
 
 -- No test has the number 0.
 abbrev pub numbersPositive : List (ℕ × Bool) → Bool
@@ -67,3 +66,17 @@ lowest-bound k (x ∷ xs) p = go (x .1) refl (lowest-bound k xs (and-right (leb 
 pub model-bound : (m : Model) (size : ℕ) → lowest (modelTests m size) ≤ 8
 unfolding modelTests
 model-bound m size = lowest-bound 8 (modelTests m size) refl
+
+-- The answer of the check holds its number, and where that is not 0 it is a refusal.
+module _ (m : Model) where
+  pub check-number : checkOutcome m .number ≡ checkNumber m
+  unfolding checkOutcome
+  check-number = go (eqb (checkNumber m) 0) refl
+    where
+      go : (b : Bool) → eqb (checkNumber m) 0 ≡ b → checkOutcome m .number ≡ checkNumber m
+      go true e = rw e (sym (eqb-true (checkNumber m) 0 e))
+      go false e = rw e
+
+  pub check-refuses : (checkNumber m ≡ 0 → ⊥) → checkOutcome m ≡ refused (checkNumber m) 0
+  unfolding checkOutcome
+  check-refuses h = rw (ne-eqb (checkNumber m) 0 h)

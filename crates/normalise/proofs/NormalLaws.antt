@@ -2,16 +2,18 @@
 use mathlib.Core.Path.{_≡_, refl, sym, ap, _∙_}
 use mathlib.Core.Bool.{Bool, true, false, not, cond}
 use mathlib.Core.List.{List, [], _∷_, _++_}
-use Prim.Native.Nat.{ℕ, _≤_, min}
+use Prim.Native.Nat.{ℕ, _≤_, _<_, min}
+use native.Mathlib.Nat.{suc-ne-zero}
 use native.Mathlib.Omega.{arith}
-use borrow.Author.Tests.{ne-eqb}
+use borrow.Author.Tests.{eq-eqb, ne-eqb, lt-ltb, le-ltb}
 use lib.Dec.{ltb, eqb}
 use lib.ListN.{length}
 use Rattle.utf8.specs.Chars.{valid, longestValidPrefix}
+use Rattle.utf8.proofs.Valid.{valid-by-prefix}
 use Rattle.model.specs.Model.{Model, stepsOf}
 use Rattle.model.specs.Answers.{lowest, zeros, placeOf, scratchAfter, Outcome, ScratchOutcome, outcome, withScratch, done, refused}
 use Rattle.model.specs.Check.{modelTests, checkNumber, textTooLong}
-use Rattle.model.proofs.AnswerLaws.{lowest-later, lowest-first, tests-positive, model-bound}
+use Rattle.model.proofs.AnswerLaws.{lowest-later, lowest-first, tests-positive, tests-of-check, text-too-long, model-bound}
 use Rattle.normalise.specs.Steps.{stepOutputs, stepped}
 use Rattle.normalise.specs.Spaces.{metaspaceOutput, metaspaced}
 use Rattle.normalise.specs.Normalise.{normalised, outgrows, normaliseOutputs, normaliseNumber, normaliseOutcome}
@@ -63,6 +65,25 @@ module _ (m : Model) (text : List ℕ) (first : Bool) (out a b : List ℕ) where
       let small : n ≤ 8 = (rw e at (model-bound m (length text))) in
       let some : lowest (modelTests m (length text)) ≡ 0 → ⊥ = λ z. h (sym e ∙ z) in
       rw (lowest-first (modelTests m (length text)) rest some, e, ne-eqb n 0 h, ne-eqb n 9 (λ z. omega arith), ne-eqb n 11 (λ z. omega arith), ne-eqb n 12 (λ z. omega arith))
+
+  -- The same by what the code has tested.
+
+  of-check : length text ≤ 1048576 → lowest (modelTests m (length text)) ≡ checkNumber m
+  unfolding textTooLong
+  of-check h = tests-of-check m (length text) (le-ltb 1048576 (length text) h)
+
+  pub long-text : 1048576 < length text → normaliseOutcome m text first out a b ≡ refusal 1 0
+  unfolding textTooLong
+  long-text h = refused-model 1 (text-too-long m (length text) (lt-ltb 1048576 (length text) h)) (suc-ne-zero 0)
+
+  pub bad-model : length text ≤ 1048576 → (checkNumber m ≡ 0 → ⊥) → normaliseOutcome m text first out a b ≡ refusal (checkNumber m) 0
+  bad-model h n = refused-model (checkNumber m) (of-check h) n
+
+  pub bad-text : length text ≤ 1048576 → checkNumber m ≡ 0 → (length (longestValidPrefix text) ≡ length text → ⊥) → normaliseOutcome m text first out a b ≡ refusal 9 (length (longestValidPrefix text))
+  bad-text h n p = broken-text (of-check h ∙ n) (valid-by-prefix text ∙ ne-eqb (length (longestValidPrefix text)) (length text) p)
+
+  pub good-text : length text ≤ 1048576 → checkNumber m ≡ 0 → length (longestValidPrefix text) ≡ length text → normaliseOutcome m text first out a b ≡ settledRun run text out a b
+  good-text h n p = fine-text (of-check h ∙ n) (valid-by-prefix text ∙ eq-eqb (length (longestValidPrefix text)) (length text) p)
 
 -- What the calls of a normalization leave, put together.
 pub settled-by : (bytes : List ℕ) (steps : List Step) (metaspace : Metaspace) (first : Bool) (text out a b : List ℕ) (room : ℕ) (stepped-run whole-run : Run) (o : Outcome) (za zb : List ℕ)
