@@ -77,6 +77,10 @@ pub enum Found {
     Nothing,
 }
 
+// The longest text that a call takes, in bytes or ids.
+pub const TEXT_LIMIT: usize = 1048576;
+
+// Document 01's answer numbers.
 pub const WRONG_SIZE: u32 = 1;
 
 pub const OFFSETS_ASTRAY: u32 = 2;
@@ -92,6 +96,12 @@ pub const BAD_ROW: u32 = 6;
 pub const BAD_TOKEN: u32 = 7;
 
 pub const BAD_STEP: u32 = 8;
+
+pub const BAD_TEXT: u32 = 9;
+
+pub const SCRATCH_TOO_SHORT: u32 = 11;
+
+pub const RESULT_TOO_SHORT: u32 = 12;
 
 impl Answer {
     pub fn done(written: usize, drops: usize, skips: usize) -> Self

@@ -33,7 +33,7 @@ fn finish(result: &[u8], out: &mut [u8]) -> Answer
     ensures { λ r. ⌜ _≡_ {A = Outcome} (record { answer = r; out = now (out .exit) }) (finished (now (result .entry)) (now (out .entry))) ⌝ }
 {
     if out.len() < result.len() {
-        return Answer::refused(12, 0);
+        return Answer::refused(model::RESULT_TOO_SHORT, 0);
     }
     copy_at(out, 0, result);
     clear_from(out, result.len());
@@ -48,6 +48,6 @@ pub fn end(ran: Ran, text: &[u8], a: &[u8], b: &[u8], out: &mut [u8]) -> Answer
         Ran::Given => finish(text, out),
         Ran::InA(n) => finish(part(a, 0, n), out),
         Ran::InB(n) => finish(part(b, 0, n), out),
-        Ran::TooLong => Answer::refused(11, 0),
+        Ran::TooLong => Answer::refused(model::SCRATCH_TOO_SHORT, 0),
     }
 }

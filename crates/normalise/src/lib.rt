@@ -30,12 +30,6 @@ ghost use Rattle.model.specs.Model.{modelOf, tokenList};
 ghost use Rattle.normalise.specs.Normalise.{normaliseOutcome};
 ghost use Rattle.normalise.specs.Run.{Run, metaspaceRun, normalRun, settledRun};
 
-// The longest text that a call takes.
-const TEXT_LIMIT: usize = 1048576;
-
-// The text is not valid UTF-8.
-const BAD_TEXT: u32 = 9;
-
 // The length of an output, where there is room for it.
 pub enum Length {
     Fits(usize),
@@ -133,12 +127,12 @@ pub fn normalise_checked(
     requires { ⌜ checkNumber (modelOf (now «piece_bytes») (now «piece_offsets») (now lookup) (now fallback) (now left) (now right) (now result) (now rank) (tokenList (now «first_bytes») (now «first_offsets») (now «first_ids») (now «first_lstrip») (now «first_rstrip»)) (tokenList (now «second_bytes») (now «second_offsets») (now «second_ids») (now «second_lstrip») (now «second_rstrip»)) (now «step_bytes») steps «step_count» metaspace) ≡ 0 ⌝ }
     ensures { λ r. ⌜ _≡_ {A = ScratchOutcome} (record { answer = r; out = now (out .exit); scratchA = now («scratch_a» .exit); scratchB = now («scratch_b» .exit) }) (normaliseOutcome (modelOf (now («piece_bytes» .entry)) (now («piece_offsets» .entry)) (now (lookup .entry)) (now (fallback .entry)) (now (left .entry)) (now (right .entry)) (now (result .entry)) (now (rank .entry)) (tokenList (now («first_bytes» .entry)) (now («first_offsets» .entry)) (now («first_ids» .entry)) (now («first_lstrip» .entry)) (now («first_rstrip» .entry))) (tokenList (now («second_bytes» .entry)) (now («second_offsets» .entry)) (now («second_ids» .entry)) (now («second_lstrip» .entry)) (now («second_rstrip» .entry))) (now («step_bytes» .entry)) steps «step_count» metaspace) (now (text .entry)) first (now (out .entry)) (now («scratch_a» .entry)) (now («scratch_b» .entry))) ⌝ }
 {
-    if TEXT_LIMIT < text.len() {
+    if model::TEXT_LIMIT < text.len() {
         return Answer::refused(model::WRONG_SIZE, 0);
     }
     let prefix = valid_prefix(text);
     if prefix != text.len() {
-        return Answer::refused(BAD_TEXT, prefix);
+        return Answer::refused(model::BAD_TEXT, prefix);
     }
     normalise_text(
         step_bytes,
@@ -185,7 +179,7 @@ pub fn normalise(
 ) -> Answer
     ensures { λ r. ⌜ _≡_ {A = ScratchOutcome} (record { answer = r; out = now (out .exit); scratchA = now («scratch_a» .exit); scratchB = now («scratch_b» .exit) }) (normaliseOutcome (modelOf (now («piece_bytes» .entry)) (now («piece_offsets» .entry)) (now (lookup .entry)) (now (fallback .entry)) (now (left .entry)) (now (right .entry)) (now (result .entry)) (now (rank .entry)) (tokenList (now («first_bytes» .entry)) (now («first_offsets» .entry)) (now («first_ids» .entry)) (now («first_lstrip» .entry)) (now («first_rstrip» .entry))) (tokenList (now («second_bytes» .entry)) (now («second_offsets» .entry)) (now («second_ids» .entry)) (now («second_lstrip» .entry)) (now («second_rstrip» .entry))) (now («step_bytes» .entry)) steps «step_count» metaspace) (now (text .entry)) first (now (out .entry)) (now («scratch_a» .entry)) (now («scratch_b» .entry))) ⌝ }
 {
-    if TEXT_LIMIT < text.len() {
+    if model::TEXT_LIMIT < text.len() {
         return Answer::refused(model::WRONG_SIZE, 0);
     }
     let checked = model::check(
