@@ -2,6 +2,7 @@
 use mathlib.Core.Path.{_≡_, refl, sym, ap, _∙_}
 use mathlib.Core.Bool.{Bool, true, false, _||_, and-true, and-false}
 use mathlib.Core.List.{List, [], _∷_}
+use mathlib.Core.Option.{none, some}
 use Prim.Native.Nat.{ℕ, suc, _+_, _-_, _≤_, _<_}
 use native.Mathlib.Nat.{suc-ne-zero, suc-inj, not-suc-le-zero}
 use native.Mathlib.Numerals.{add-one}
@@ -11,8 +12,8 @@ use lib.Dec.{eqb, ltb}
 use lib.ListN.{length, getD, take, drop, length-take, drop-of-length-le, List·getD-eq-default}
 use lib.Seq.{drop-cons, getD-take}
 use Rattle.utf8.specs.Lists.{any, same}
-use Rattle.utf8.proofs.Places.{any-append}
-use Rattle.model.specs.Model.{piece, noId, spansOf}
+use Rattle.utf8.proofs.Places.{any-append, getD-inside}
+use Rattle.model.specs.Model.{piece, noId, fallbackId, spansOf}
 use Rattle.model.specs.Check.{pairTooLong, pairRises, fallbackFits, stepSpans}
 use Rattle.model.specs.declared.Span.{Span}
 use Rattle.model.specs.declared.Step.{Step}
@@ -84,3 +85,17 @@ module _ (test : Span → Bool) (steps : List Step) (count i : ℕ) (d : Step) w
   pub spans-ended : count ≤ i → any test (stepSpans (drop i (take count steps))) ≡ false
   unfolding stepSpans
   spans-ended h = rw (drop-of-length-le (take count steps) {i = i} (omega (arith, length-take count steps)))
+
+-- The three ways to read a fallback id.
+module _ (fallback : List ℕ) (byte : ℕ) where
+  pub fallback-past : length fallback ≤ byte → fallbackId fallback byte ≡ none
+  unfolding fallbackId
+  fallback-past h = rw (List·getD-eq-default fallback noId h)
+
+  pub fallback-none : byte < length fallback → getD fallback byte 0 ≡ noId → fallbackId fallback byte ≡ none
+  unfolding fallbackId
+  fallback-none h e = rw (getD-inside fallback byte noId 0 h, eq-eqb (getD fallback byte 0) noId e)
+
+  pub fallback-some : (id : ℕ) → byte < length fallback → (getD fallback byte 0 ≡ noId → ⊥) → id ≡ getD fallback byte 0 → some id ≡ fallbackId fallback byte
+  unfolding fallbackId
+  fallback-some id h e i = rw (getD-inside fallback byte noId 0 h, ne-eqb (getD fallback byte 0) noId e, i)

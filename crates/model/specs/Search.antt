@@ -84,3 +84,8 @@ idAt lookup found = entryAt 0 lookup found
 -- The row that a search among the merge rows gives.
 unfoldable pub rowFound : List Row → Found → Option Row
 rowFound rows found = entryAt (record { left = 0; right = 0; result = 0; rank = 0 }) rows found
+
+-- What was found, as the number itself.
+abbrev pub foundId : Found → Option ℕ
+foundId (At id) = some id
+foundId Nothing = none

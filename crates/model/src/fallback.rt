@@ -1,12 +1,29 @@
 // Answer 5: the fallback ids.
+use crate::Found;
 use crate::tables::string_at;
 use crate::tables::wide;
 ghost use mathlib.Core.Path.{_≡_};
-ghost use Rattle.model.specs.Model.{strings};
+ghost use Rattle.model.specs.Model.{strings, fallbackId};
+ghost use Rattle.model.specs.Search.{foundId};
 ghost use Rattle.model.specs.Check.{fallbackFits, badFallback};
 
 // 4,294,967,295: no id.
 const NO_ID: u32 = 4294967295;
+
+// The fallback id of a byte.
+pub fn fallback_id(fallback: &[u32], byte: u8) -> Found
+    ensures { λ r. ⌜ foundId r ≡ fallbackId (now (fallback .entry)) byte ⌝ }
+{
+    let at = byte as usize;
+    if fallback.len() <= at {
+        return Found::Nothing;
+    }
+    let id = fallback[at];
+    if id == NO_ID {
+        return Found::Nothing;
+    }
+    Found::At(wide(id))
+}
 
 // The entry is none, or the id of the piece that is that one byte.
 fn fallback_fits(piece_bytes: &[u8], piece_offsets: &[u32], byte: usize, id: u32) -> bool

@@ -13,7 +13,7 @@ ghost use Rattle.model.specs.Answers.{done, refused};
 ghost use Rattle.model.specs.Check.{checkOutcome};
 
 pub mod compare;
-mod fallback;
+pub mod fallback;
 mod lookup;
 mod offsets;
 mod rows;
