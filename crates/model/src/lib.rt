@@ -55,6 +55,7 @@ pub enum Metaspace {
 }
 
 // What every call answers: the number of document 01's table, the place that a 9 names, and the three counts.
+#[repr(C)]
 pub struct Answer {
     pub number: u32,
     pub place: usize,

@@ -172,6 +172,15 @@ module _ {ℓ} {A : Type ℓ} (test : ℕ × A → Bool) (xs : List A) (i : ℕ)
   at-numbered : (b : Bool) → i < length xs → test (i, getD xs i d) ≡ b → test (getD (numbered xs) i (0, d)) ≡ b
   at-numbered b h e = ap test (getD-numbered xs i 0 d h) ∙ e
 
+  pub any-numbered-found : i < length xs → test (i, getD xs i d) ≡ true → any test (drop i (numbered xs)) ≡ true
+  any-numbered-found h e = any-found test (numbered xs) i (0, d) (omega (arith, length-numbered xs)) (at-numbered true h e)
+
+  pub any-numbered-next : i < length xs → test (i, getD xs i d) ≡ false → any test (drop i (numbered xs)) ≡ any test (drop (i + 1) (numbered xs))
+  any-numbered-next h e = any-next test (numbered xs) i (0, d) (omega (arith, length-numbered xs)) (at-numbered false h e)
+
+  pub any-numbered-ended : length xs ≤ i → any test (drop i (numbered xs)) ≡ false
+  any-numbered-ended h = any-ended test (numbered xs) i (omega (arith, length-numbered xs))
+
   pub all-numbered-broken : i < length xs → test (i, getD xs i d) ≡ false → all test (drop i (numbered xs)) ≡ false
   all-numbered-broken h e = all-broken test (numbered xs) i (0, d) (omega (arith, length-numbered xs)) (at-numbered false h e)
 

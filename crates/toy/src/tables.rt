@@ -1,0 +1,134 @@
+// Document 01's toy models as tables, and the faults that T's may have.
+use model::Span;
+use model::Step;
+
+// T: pieces 0 mark, 1 `a`, 2 `b`, 3 `ab`, 4 mark+`a`, 5 `.`, 6 byte C3, 7 byte A9; rows (0,1)->4 rank 1, (1,2)->3 rank 0.
+pub(crate) const PIECES_T: [u8; 14] = [
+    0xE2,
+    0x96,
+    0x81,
+    0x61,
+    0x62,
+    0x61,
+    0x62,
+    0xE2,
+    0x96,
+    0x81,
+    0x61,
+    0x2E,
+    0xC3,
+    0xA9,
+];
+
+pub(crate) const OFFSETS_T: [u32; 9] = [0, 3, 4, 5, 7, 11, 12, 13, 14];
+
+pub(crate) const LOOKUP_T: [u32; 8] = [5, 1, 3, 2, 7, 6, 0, 4];
+
+pub(crate) const LEFT_T: [u32; 2] = [0, 1];
+
+pub(crate) const RIGHT_T: [u32; 2] = [1, 2];
+
+pub(crate) const RESULT_T: [u32; 2] = [4, 3];
+
+pub(crate) const RANK_T: [u32; 2] = [1, 0];
+
+// U adds 8 = `b`+mark+`a` and the row (2,4)->8 rank 2.
+pub(crate) const PIECES_U: [u8; 19] = [
+    0xE2,
+    0x96,
+    0x81,
+    0x61,
+    0x62,
+    0x61,
+    0x62,
+    0xE2,
+    0x96,
+    0x81,
+    0x61,
+    0x2E,
+    0xC3,
+    0xA9,
+    0x62,
+    0xE2,
+    0x96,
+    0x81,
+    0x61,
+];
+
+pub(crate) const OFFSETS_U: [u32; 10] = [0, 3, 4, 5, 7, 11, 12, 13, 14, 19];
+
+pub(crate) const LOOKUP_U: [u32; 9] = [5, 1, 3, 2, 8, 7, 6, 0, 4];
+
+pub(crate) const LEFT_U: [u32; 3] = [0, 1, 2];
+
+pub(crate) const RIGHT_U: [u32; 3] = [1, 2, 4];
+
+pub(crate) const RESULT_U: [u32; 3] = [4, 3, 8];
+
+pub(crate) const RANK_U: [u32; 3] = [1, 0, 2];
+
+// The token `<n>`.
+pub(crate) const TOKEN: [u8; 3] = [0x3C, 0x6E, 0x3E];
+
+// T's tables, each with the fault that gives the answer `fault`, if it is the table that has it.
+
+pub(crate) fn t_pieces(fault: u32) -> [u8; 14] {
+    let mut pieces = PIECES_T;
+    if fault == model::BAD_PIECE {
+        pieces[2] = 0x20;
+    }
+    pieces
+}
+
+pub(crate) fn t_offsets(fault: u32) -> [u32; 9] {
+    let mut offsets = OFFSETS_T;
+    if fault == model::WRONG_SIZE {
+        offsets[8] = 300;
+    }
+    if fault == model::OFFSETS_ASTRAY {
+        offsets[8] = 15;
+    }
+    offsets
+}
+
+pub(crate) fn t_lookup(fault: u32) -> [u32; 8] {
+    let mut lookup = LOOKUP_T;
+    if fault == model::BAD_LOOKUP {
+        lookup[0] = 1;
+        lookup[1] = 5;
+    }
+    lookup
+}
+
+pub(crate) fn t_fallback(fault: u32) -> [u32; 256] {
+    let mut fallback = [4294967295u32; 256];
+    fallback[0xC3] = 6;
+    fallback[0xA9] = 7;
+    if fault == model::BAD_FALLBACK {
+        fallback[0xA9] = 6;
+    }
+    fallback
+}
+
+pub(crate) fn t_result(fault: u32) -> [u32; 2] {
+    let mut result = RESULT_T;
+    if fault == model::BAD_ROW {
+        result[0] = 3;
+    }
+    result
+}
+
+pub(crate) fn t_token(fault: u32) -> [u8; 3] {
+    let mut token = TOKEN;
+    if fault == model::BAD_TOKEN {
+        token[1] = 0xFF;
+    }
+    token
+}
+
+pub(crate) fn t_step(fault: u32) -> Step {
+    if fault == model::BAD_STEP {
+        return Step::Prepend(Span { place: 0, len: 1 });
+    }
+    Step::Prepend(Span { place: 0, len: 2 })
+}

@@ -1,0 +1,128 @@
+/* Varitmol's calls for C.
+ *
+ * Every slice is a pointer and a length in elements. A slice of no elements may not be NULL: any other pointer will do. Slices that
+ * are not const may overlap no other slice. A bool is 0 or 1. A call keeps nothing and allocates nothing.
+ *
+ * The model's columns are the same in every call:
+ *
+ *   piece_bytes, piece_offsets   the pieces, end to end; one offset more than there are pieces
+ *   lookup                       ids in the byte order of their pieces, each distinct non-empty piece once
+ *   fallback                     256 ids, one for each byte; VARITMOL_NO_ID where there is none
+ *   left, right, result, rank    the merge rows, ascending by left and right
+ *   first_.., second_..          the two lists of added tokens: contents end to end, their offsets, ids and strip flags
+ *   step_bytes                   the bytes that the steps' strings lie in
+ *   step_kinds, step_spans       at most 16 steps: a kind each, and four numbers each
+ *   metaspace, split             VARITMOL_ABSENT or a scheme, and whether it splits: 0 or 1
+ *
+ * The four numbers of a step are place and length of its first string, place and length of its second. Prepend and
+ * CollapseSpaces have one string, the content; Replace has two, the pattern and the content. A Strip has two flags in the place of
+ * the first two numbers, left and right, each 0 or 1. What a kind does not use is 0.
+ */
+#ifndef VARITMOL_H
+#define VARITMOL_H
+
+#include <stdbool.h>
+#include <stddef.h>
+#include <stdint.h>
+
+#ifdef __cplusplus
+extern "C" {
+#endif
+
+#define VARITMOL_NO_ID UINT32_C(4294967295)
+
+/* The kinds of a step. */
+#define VARITMOL_PREPEND 0
+#define VARITMOL_REPLACE 1
+#define VARITMOL_COLLAPSE_SPACES 2
+#define VARITMOL_STRIP 3
+
+/* Metaspace: absent, or present with a prepend scheme. */
+#define VARITMOL_ABSENT 0
+#define VARITMOL_NEVER 1
+#define VARITMOL_ALWAYS 2
+#define VARITMOL_FIRST 3
+
+/* The answer's number. The lowest that applies is given. */
+#define VARITMOL_ACCEPTED 0
+#define VARITMOL_WRONG_SIZE 1        /* a size is exceeded, columns differ in length, or steps or metaspace are no such numbers */
+#define VARITMOL_OFFSETS_ASTRAY 2    /* offsets or step strings do not lie in order inside their bytes */
+#define VARITMOL_BAD_PIECE 3         /* a piece is neither valid UTF-8 nor one byte */
+#define VARITMOL_BAD_LOOKUP 4        /* the lookup list is out of order, incomplete, or names no piece */
+#define VARITMOL_BAD_FALLBACK 5      /* a fallback id is not that of the byte's piece */
+#define VARITMOL_BAD_ROW 6           /* a merge row is out of order, names no piece, or does not join its two sides */
+#define VARITMOL_BAD_TOKEN 7         /* a token's content is empty or not valid UTF-8 */
+#define VARITMOL_BAD_STEP 8          /* a step's string is not valid UTF-8 */
+#define VARITMOL_BAD_TEXT 9          /* the text is not valid UTF-8 */
+#define VARITMOL_SCRATCH_TOO_SHORT 11 /* an output of a step or of metaspace is longer than the shorter scratch buffer */
+#define VARITMOL_RESULT_TOO_SHORT 12 /* the result buffer is too short */
+
+typedef struct {
+    uint32_t number;
+    size_t place;   /* for VARITMOL_BAD_TEXT the length of the longest valid prefix, else 0 */
+    size_t written; /* cells of the result, 0 after a refusal */
+    size_t drops;   /* characters that no piece spells */
+    size_t skips;   /* ids that have no piece */
+} varitmol_answer;
+
+/* Whether the model is accepted: 0, or the lowest of 1 to 8 that applies. */
+varitmol_answer varitmol_check(
+    const uint8_t *piece_bytes, size_t piece_bytes_len,
+    const uint32_t *piece_offsets, size_t piece_offsets_len,
+    const uint32_t *lookup, size_t lookup_len,
+    const uint32_t *fallback, size_t fallback_len,
+    const uint32_t *left, size_t left_len,
+    const uint32_t *right, size_t right_len,
+    const uint32_t *result, size_t result_len,
+    const uint32_t *rank, size_t rank_len,
+    const uint8_t *first_bytes, size_t first_bytes_len,
+    const uint32_t *first_offsets, size_t first_offsets_len,
+    const uint32_t *first_ids, size_t first_ids_len,
+    const bool *first_lstrip, size_t first_lstrip_len,
+    const bool *first_rstrip, size_t first_rstrip_len,
+    const uint8_t *second_bytes, size_t second_bytes_len,
+    const uint32_t *second_offsets, size_t second_offsets_len,
+    const uint32_t *second_ids, size_t second_ids_len,
+    const bool *second_lstrip, size_t second_lstrip_len,
+    const bool *second_rstrip, size_t second_rstrip_len,
+    const uint8_t *step_bytes, size_t step_bytes_len,
+    const uint8_t *step_kinds, size_t step_kinds_len,
+    const uint32_t *step_spans, size_t step_spans_len,
+    uint8_t metaspace, uint8_t split);
+
+/* Steps and metaspace on the whole text. `first` says whether metaspace runs as in a first section. After 0 the bytes stand in out,
+ * followed by zeros to its end; after a refusal out is as it was. Scratch is zero after 0, 11 and 12 and else as it was. */
+varitmol_answer varitmol_normalise(
+    const uint8_t *piece_bytes, size_t piece_bytes_len,
+    const uint32_t *piece_offsets, size_t piece_offsets_len,
+    const uint32_t *lookup, size_t lookup_len,
+    const uint32_t *fallback, size_t fallback_len,
+    const uint32_t *left, size_t left_len,
+    const uint32_t *right, size_t right_len,
+    const uint32_t *result, size_t result_len,
+    const uint32_t *rank, size_t rank_len,
+    const uint8_t *first_bytes, size_t first_bytes_len,
+    const uint32_t *first_offsets, size_t first_offsets_len,
+    const uint32_t *first_ids, size_t first_ids_len,
+    const bool *first_lstrip, size_t first_lstrip_len,
+    const bool *first_rstrip, size_t first_rstrip_len,
+    const uint8_t *second_bytes, size_t second_bytes_len,
+    const uint32_t *second_offsets, size_t second_offsets_len,
+    const uint32_t *second_ids, size_t second_ids_len,
+    const bool *second_lstrip, size_t second_lstrip_len,
+    const bool *second_rstrip, size_t second_rstrip_len,
+    const uint8_t *step_bytes, size_t step_bytes_len,
+    const uint8_t *step_kinds, size_t step_kinds_len,
+    const uint32_t *step_spans, size_t step_spans_len,
+    uint8_t metaspace, uint8_t split,
+    const uint8_t *text, size_t text_len,
+    bool first,
+    uint8_t *out, size_t out_len,
+    uint8_t *scratch_a, size_t scratch_a_len,
+    uint8_t *scratch_b, size_t scratch_b_len);
+
+#ifdef __cplusplus
+}
+#endif
+
+#endif
