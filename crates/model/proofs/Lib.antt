@@ -1,5 +1,6 @@
 pub mod CheckLaws
 pub mod LookupLaws
+pub mod CompleteLaws
 pub mod OrderLaws
 pub mod RowLaws
 pub mod SearchLaws

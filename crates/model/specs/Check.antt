@@ -108,9 +108,12 @@ lookupAscends pieces lookup = all (λ (p : ℕ × ℕ). isBefore (piece pieces (
 unfoldable pub isListed : List (List ℕ) → List ℕ → List ℕ → Bool
 isListed pieces lookup bytes = any (λ (id : ℕ). same (piece pieces id) bytes) lookup
 
+abbrev pub isFull : List ℕ → Bool
+isFull bytes = not (isEmpty bytes)
+
 -- "Every distinct non-empty piece".
 unfoldable pub pieceMissing : List (List ℕ) → List ℕ → Bool
-pieceMissing pieces lookup = any (λ (bytes : List ℕ). not (isEmpty bytes) && not (isListed pieces lookup bytes)) pieces
+pieceMissing pieces lookup = any (λ (bytes : List ℕ). isFull bytes && not (isListed pieces lookup bytes)) pieces
 
 unfoldable pub badLookup : List (List ℕ) → List ℕ → Bool
 badLookup pieces lookup = any (namesNoPiece pieces) lookup || not (lookupAscends pieces lookup) || pieceMissing pieces lookup

@@ -8,10 +8,10 @@ use crate::tables::string_count;
 use crate::tables::wide;
 ghost use mathlib.Core.Path.{_≡_};
 ghost use mathlib.Core.Bool.{true, not, _&&_};
-ghost use Rattle.utf8.specs.Lists.{any, isEmpty};
+ghost use Rattle.utf8.specs.Lists.{any, count, isEmpty};
 ghost use Rattle.model.specs.Model.{strings, piece};
 ghost use Rattle.model.specs.Search.{isBefore};
-ghost use Rattle.model.specs.Check.{namesNoPiece, lookupAscends, isListed, pieceMissing, badLookup};
+ghost use Rattle.model.specs.Check.{isFull, namesNoPiece, lookupAscends, isListed, pieceMissing, badLookup};
 
 // Whether the piece of `id` is empty, as is that of an id which has none.
 fn piece_empty(piece_bytes: &[u8], piece_offsets: &[u32], id: usize) -> bool
@@ -62,7 +62,7 @@ fn lookup_ascends(piece_bytes: &[u8], piece_offsets: &[u32], lookup: &[u32]) -> 
 // Whether the piece of `id` is not empty and not in the lookup list.
 fn unlisted(piece_bytes: &[u8], piece_offsets: &[u32], lookup: &[u32], id: usize) -> bool
     requires { ⌜ lookupAscends (strings (now «piece_bytes») (now «piece_offsets»)) (now lookup) ≡ true ⌝ }
-    ensures { λ r. let pieces = strings (now («piece_bytes» .entry)) (now («piece_offsets» .entry)) in ⌜ r ≡ (not (isEmpty (piece pieces id)) && not (isListed pieces (now (lookup .entry)) (piece pieces id))) ⌝ }
+    ensures { λ r. let pieces = strings (now («piece_bytes» .entry)) (now («piece_offsets» .entry)) in ⌜ r ≡ (isFull (piece pieces id) && not (isListed pieces (now (lookup .entry)) (piece pieces id))) ⌝ }
 {
     if piece_empty(piece_bytes, piece_offsets, id) {
         return false;
@@ -90,6 +90,24 @@ fn piece_missing(piece_bytes: &[u8], piece_offsets: &[u32], lookup: &[u32]) -> b
     false
 }
 
+// How many pieces are not empty.
+fn full_pieces(piece_bytes: &[u8], piece_offsets: &[u32]) -> usize
+    ensures { λ r. ⌜ r ≡ count isFull (strings (now («piece_bytes» .entry)) (now («piece_offsets» .entry))) ⌝ }
+{
+    let pieces = string_count(piece_offsets);
+    let mut id = 0;
+    let mut full = 0;
+    while id < pieces {
+        if piece_empty(piece_bytes, piece_offsets, id) {
+            id += 1;
+        } else {
+            full += 1;
+            id += 1;
+        }
+    }
+    full
+}
+
 // Whether the lookup list breaks its rule.
 pub fn bad_lookup(piece_bytes: &[u8], piece_offsets: &[u32], lookup: &[u32]) -> bool
     ensures { λ r. ⌜ r ≡ badLookup (strings (now («piece_bytes» .entry)) (now («piece_offsets» .entry))) (now (lookup .entry)) ⌝ }
@@ -99,6 +117,10 @@ pub fn bad_lookup(piece_bytes: &[u8], piece_offsets: &[u32], lookup: &[u32]) -> 
     }
     if !lookup_ascends(piece_bytes, piece_offsets, lookup) {
         return true;
+    }
+    // Entries that ascend differ, so as many as there are such pieces leave none out; with equal pieces there are fewer.
+    if full_pieces(piece_bytes, piece_offsets) == lookup.len() {
+        return false;
     }
     piece_missing(piece_bytes, piece_offsets, lookup)
 }

@@ -11,3 +11,4 @@ pub mod Last
 pub mod Trim
 pub mod Starts
 pub mod Writing
+pub mod Counts

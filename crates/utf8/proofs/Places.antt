@@ -10,12 +10,8 @@ use native.Mathlib.Omega.{arith}
 use lib.Dec.{eqb, eqb·suc-zero}
 use lib.ListN.{length, getD, take, drop, length-take, drop-of-length-le, length-map, List·getD-map, List·getD-eq-default}
 use lib.Seq.{drop-cons, take-nil, take-all, take-length, slice}
-use Rattle.utf8.proofs.Tests.{and-left, and-right}
+use Rattle.utf8.proofs.Tests.{and-left, and-right, or-also}
 use Rattle.utf8.specs.Lists.{isEmpty, lastOr, same, any, all, find, neighboursFrom, neighbours, between, numberedFrom, numbered, zip, countFrom}
-
-or-right : (a : Bool) {b : Bool} → b ≡ true → (a || b) ≡ true
-or-right true e = refl
-or-right false e = e
 
 module _ {ℓ} {A : Type ℓ} (test : A → Bool) (xs : List A) (i : ℕ) where
   -- ---- one element more, and the end
@@ -58,7 +54,7 @@ module _ {ℓ} {A : Type ℓ} (test : A → Bool) where
   pub any-one : (xs : List A) (i : ℕ) (d : A) → i < length xs → test (getD xs i d) ≡ true → any test xs ≡ true
   any-one [] i d h e = absurd (not-suc-le-zero h)
   any-one (x ∷ xs) zero d h e = rw e
-  any-one (x ∷ xs) (suc i) d h e = or-right (test x) (any-one xs i d (le-of-suc-le-suc h) e)
+  any-one (x ∷ xs) (suc i) d h e = or-also (test x) (any-one xs i d (le-of-suc-le-suc h) e)
 
   pub any-none : (xs : List A) (d : A) → ((i : ℕ) → i < length xs → test (getD xs i d) ≡ false) → any test xs ≡ false
   any-none [] d f = refl

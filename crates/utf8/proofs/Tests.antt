@@ -30,6 +30,10 @@ pub or-right : (a b : Bool) → (a || b) ≡ false → b ≡ false
 or-right true b e = clash e refl
 or-right false b e = e
 
+pub or-also : (a : Bool) {b : Bool} → b ≡ true → (a || b) ≡ true
+or-also true e = refl
+or-also false e = e
+
 pub and-both : {a b : Bool} → a ≡ true → b ≡ true → (a && b) ≡ true
 and-both p q = ap₂ _&&_ p q
 
