@@ -39,7 +39,11 @@ returns c =
     let st = c .before .before .before .before .before .before .before .before .before .before .before .before .before .before .before .before .before .before .before .before .before .before .before .before .before .before .before .before .before .before .before .before .before .before .args in
     let same-a : length (c .before .before .before .before .before .before .clear .last .0) ≡ length (st .a .now) = search needs in
     let same-b : length (c .before .before .clear2 .last .0) ≡ length (st .b .now) = search needs in
-    settled-by (st .step-bytes .now) (take (st .step-count) (st .steps)) (st .metaspace) (st .first) (st .text .now) (st .out .now) (st .a .now) (st .b .now) (c .before .before .before .before .before .before .before .before .before .before .before .before .before .before .before .before .before .before .before .before .before .before .before .before .before .before .before .before .lesser .result) _ _ _ _ _ (c .before .before .before .before .before .before .before .before .before .before .before .before .before .before .before .before .before .before .before .before .before .before .before .before .before .before .before .before .lesser .ensures) (c .before .before .before .before .before .before .before .before .before .before .before .before .before .before .before .before .before .before .before .before .before .before .before .before .before .run-steps .ensures) (c .before .before .before .before .before .before .before .before .before .before .before .before .before .before .before .before .before .before .run-if-present .ensures) (c .before .before .before .before .before .before .before .before .before .before .end .ensures) (all-zeros _ (length (c .before .before .before .before .before .before .before .before .before .before .before .before .before .before .before .before .before .before .run-if-present .last .1 .1 .1 .1 .1 .0)) _ (c .before .before .before .before .before .before .clear .ensures) same-a) (all-zeros _ (length (c .before .before .before .before .before .before .before .before .before .before .before .before .before .before .before .before .before .before .run-if-present .last .1 .1 .1 .1 .1 .1 .0)) _ (c .before .before .clear2 .ensures) same-b)
+    let ran = c .before .before .before .before .before .before .before .before .before .before .before .before .before .before .before .before .before .before .run-if-present in
+    let least = c .before .before .before .before .before .before .before .before .before .before .before .before .before .before .before .before .before .before .before .before .before .before .before .before .before .before .before .before .lesser in
+    settled-by (st .step-bytes .now) (take (st .step-count) (st .steps)) (st .metaspace) (st .first) (st .text .now) (st .out .now) (st .a .now) (st .b .now) (least .result) _ _ _ _ _ (least .ensures) (c .before .before .before .before .before .before .before .before .before .before .before .before .before .before .before .before .before .before .before .before .before .before .before .before .before .run-steps .ensures) (ran .ensures) (c .before .before .before .before .before .before .before .before .before .before .end .ensures)
+    (all-zeros _ (length (ran .last .1 .1 .1 .1 .1 .0)) _ (c .before .before .before .before .before .before .clear .ensures) same-a)
+    (all-zeros _ (length (ran .last .1 .1 .1 .1 .1 .1 .0)) _ (c .before .before .clear2 .ensures) same-b)
 
 pub normalise-text-spec : {M : Type 1} → statement M
 normalise-text-spec =

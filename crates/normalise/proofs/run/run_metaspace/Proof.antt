@@ -52,7 +52,9 @@ same-length : tie.Need-same-length
 same-length c = search needs
 
 returns : tie.Need-returns
-returns c = turn-given (marked (c .before .before .before .before .before .before .before .before .before .before .args .prepend) (c .before .before .before .before .before .before .before .before .before .before .args .first)) (c .before .before .before .before .before .before .before .before .before .before .args .text .now) (c .before .before .before .before .before .before .before .before .before .before .args .room) (c .before .before .before .before .before .before .before .before .before .before .args .from) (c .before .before .before .before .before .before .before .before .before .before .args .a .now) (c .before .before .before .before .before .before .before .before .before .before .args .b .now) _ _ _ (c .before .before .before .before .before .enum-told .given .1) (c .before .before .before .apply-metaspace .ensures) (c .in-a .ensures)
+returns c =
+    let st = c .before .before .before .before .before .before .before .before .before .before .args in
+    turn-given (marked (st .prepend) (st .first)) (st .text .now) (st .room) (st .from) (st .a .now) (st .b .now) _ _ _ (c .before .before .before .before .before .enum-told .given .1) (c .before .before .before .apply-metaspace .ensures) (c .in-a .ensures)
 
 same-length-2 : tie.Need-same-length-2
 same-length-2 c = search needs
@@ -61,7 +63,9 @@ same-length-3 : tie.Need-same-length-3
 same-length-3 c = search needs
 
 returns-2 : tie.Need-returns-2
-returns-2 c = turn-in-a (marked (c .before .before .before .before .before .before .before .before .before .before .before .before .before .args .prepend) (c .before .before .before .before .before .before .before .before .before .before .before .before .before .args .first)) (c .before .before .before .before .before .before .before .before .before .before .before .before .before .args .text .now) (c .before .before .before .before .before .before .before .before .before .before .before .before .before .args .room) (c .before .before .before .before .before .before .before .before .before .before .before .before .before .args .from) (c .before .before .before .before .before .before .before .before .before .before .before .before .before .args .a .now) (c .before .before .before .before .before .before .before .before .before .before .before .before .before .args .b .now) _ _ _ _ _ (c .before .before .before .before .before .before .before .before .from .given .1) (c .before .before .before .before .before .part .ensures) (c .before .before .before .apply-metaspace2 .ensures) (c .in-b .ensures)
+returns-2 c =
+    let st = c .before .before .before .before .before .before .before .before .before .before .before .before .before .args in
+    turn-in-a (marked (st .prepend) (st .first)) (st .text .now) (st .room) (st .from) (st .a .now) (st .b .now) _ _ _ _ _ (c .before .before .before .before .before .before .before .before .from .given .1) (c .before .before .before .before .before .part .ensures) (c .before .before .before .apply-metaspace2 .ensures) (c .in-b .ensures)
 
 same-length-4 : tie.Need-same-length-4
 same-length-4 c = search needs
@@ -70,10 +74,14 @@ same-length-5 : tie.Need-same-length-5
 same-length-5 c = search needs
 
 returns-3 : tie.Need-returns-3
-returns-3 c = turn-in-b (marked (c .before .before .before .before .before .before .before .before .before .before .before .before .before .args .prepend) (c .before .before .before .before .before .before .before .before .before .before .before .before .before .args .first)) (c .before .before .before .before .before .before .before .before .before .before .before .before .before .args .text .now) (c .before .before .before .before .before .before .before .before .before .before .before .before .before .args .room) (c .before .before .before .before .before .before .before .before .before .before .before .before .before .args .from) (c .before .before .before .before .before .before .before .before .before .before .before .before .before .args .a .now) (c .before .before .before .before .before .before .before .before .before .before .before .before .before .args .b .now) _ _ _ _ _ (c .before .before .before .before .before .before .before .before .from2 .given .1) (c .before .before .before .before .before .part2 .ensures) (c .before .before .before .apply-metaspace3 .ensures) (c .in-a2 .ensures)
+returns-3 c =
+    let st = c .before .before .before .before .before .before .before .before .before .before .before .before .before .args in
+    turn-in-b (marked (st .prepend) (st .first)) (st .text .now) (st .room) (st .from) (st .a .now) (st .b .now) _ _ _ _ _ (c .before .before .before .before .before .before .before .before .from2 .given .1) (c .before .before .before .before .before .part2 .ensures) (c .before .before .before .apply-metaspace3 .ensures) (c .in-a2 .ensures)
 
 returns-4 : tie.Need-returns-4
-returns-4 c = turn-too-long (marked (c .before .before .before .before .before .args .prepend) (c .before .before .before .before .before .args .first)) (c .before .before .before .before .before .args .text .now) (c .before .before .before .before .before .args .room) (c .before .before .before .before .before .args .from) (c .before .before .before .before .before .args .a .now) (c .before .before .before .before .before .args .b .now) (c .enum-told2 .given .1)
+returns-4 c =
+    let st = c .before .before .before .before .before .args in
+    turn-too-long (marked (st .prepend) (st .first)) (st .text .now) (st .room) (st .from) (st .a .now) (st .b .now) (c .enum-told2 .given .1)
 
 pub run-metaspace-spec : {M : Type 1} → statement M
 run-metaspace-spec =
