@@ -1,48 +1,22 @@
--- A lookup list that ascends and has as many entries as there are pieces that are not empty leaves none of them out.
-use mathlib.Core.Path.{_≡_, refl, sym, ap, _∙_}
-use mathlib.Core.Bool.{Bool, true, false, not, _||_}
+-- A lookup list that ascends and has as many entries of long pieces as there are such pieces leaves none of them out.
+use mathlib.Core.Path.{_≡_, refl, ap, _∙_}
+use mathlib.Core.Bool.{Bool, true, false, not, _&&_}
 use mathlib.Core.List.{List, [], _∷_}
-use Prim.Native.Nat.{ℕ, _+_, zero-le, _≤_, _<_}
-use native.Mathlib.Nat.{zero-add}
-use native.Mathlib.Omega.{arith}
-use borrow.Author.Tests.{leb-false}
+use Prim.Native.Nat.{ℕ, zero-le, suc-le-suc, _≤_, _<_}
+use native.Mathlib.Nat.{le-trans}
+use borrow.Author.Tests.{leb-true, ltb-true, leb-false}
 use lib.Dec.{leb}
-use lib.ListN.{length, drop}
+use lib.ListN.{length, getD}
 use Rattle.utf8.specs.Lists.{isEmpty, any, count, same}
-use Rattle.utf8.proofs.Tests.{clash, or-left, or-right, or-also, and-left, and-right}
-use Rattle.utf8.proofs.Counts.{count-found, count-next, count-ended, count-fewer, count-same}
+use Rattle.utf8.proofs.Tests.{clash, or-left, or-right, or-also, and-left, and-right, and-both}
+use Rattle.utf8.proofs.Places.{any-one, any-none}
+use Rattle.utf8.proofs.Counts.{count-most, count-fewer, count-same}
 use Rattle.model.specs.declared.Order.the-variants.{Less}
 use Rattle.model.specs.Model.{piece}
 use Rattle.model.specs.Search.{byteOrder, isBefore}
-use Rattle.model.specs.Check.{isFull, namesNoPiece, lookupAscends, isListed, pieceMissing}
-use Rattle.model.proofs.OrderLaws.{isEqual, same-is-equal, less-is, equal-is, order-self, order-trans, turned, order-turned, equal-strings}
-use Rattle.model.proofs.LookupLaws.{no-piece}
-
--- ---- the count, piece by piece
-
-module _ (pieces : List (List ℕ)) (id n : ℕ) where
-  pub fullAfter : ℕ
-  fullAfter = n + count isFull (drop id pieces)
-
-module _ (pieces : List (List ℕ)) where
-  pub full-start : fullAfter pieces 0 0 ≡ count isFull pieces
-  unfolding fullAfter
-  full-start = zero-add (count isFull pieces)
-
-  module _ (id n : ℕ) where
-    pub full-passed : id < length pieces → isEmpty (piece pieces id) ≡ true → fullAfter pieces id n ≡ fullAfter pieces (id + 1) n
-    unfolding fullAfter piece
-    full-passed h e = ap (λ (m : ℕ). n + m) (count-next isFull pieces id [] h (rw e))
-
-    pub full-counted : id < length pieces → isEmpty (piece pieces id) ≡ false → fullAfter pieces id n ≡ fullAfter pieces (id + 1) (n + 1)
-    unfolding fullAfter piece
-    full-counted h e = omega (arith, count-found isFull pieces id [] h (rw e))
-
-    pub full-ended : length pieces ≤ id → fullAfter pieces id n ≡ n
-    unfolding fullAfter
-    full-ended h = omega (arith, count-ended isFull pieces id [] h)
-
--- ---- as many entries as there are such pieces
+use Rattle.model.specs.Check.{namesNoPiece, lookupAscends, isListed, isLong, longMissing}
+use Rattle.model.proofs.OrderLaws.{isEqual, same-is-equal, less-is, order-self, order-trans, turned, order-turned}
+use Rattle.model.proofs.CheckLaws.{has-id}
 
 module _ (pieces : List (List ℕ)) where
   first-step : (x y : ℕ) (rest : List ℕ) → lookupAscends pieces (x ∷ y ∷ rest) ≡ true → byteOrder (piece pieces x) (piece pieces y) ≡ Less
@@ -82,29 +56,52 @@ module _ (pieces : List (List ℕ)) where
   unfolding isListed
   listed-more x rest bytes e = or-also (same (piece pieces x) bytes) e
 
-  -- Each entry lists one piece more.
-  listed-count : (lookup : List ℕ) → any (namesNoPiece pieces) lookup ≡ false → lookupAscends pieces lookup ≡ true → length lookup ≤ count (isListed pieces lookup) pieces
+  -- A long piece that is listed.
+  abbrev longListed : List ℕ → List ℕ → Bool
+  longListed lookup bytes = isLong bytes && isListed pieces lookup bytes
+
+  more-listed : (x : ℕ) (rest bytes : List ℕ) → longListed rest bytes ≡ true → longListed (x ∷ rest) bytes ≡ true
+  more-listed x rest bytes e =
+      and-both (and-left (isLong bytes) (isListed pieces rest bytes) e) (listed-more x rest bytes (and-right (isLong bytes) (isListed pieces rest bytes) e))
+
+  -- Each entry of a long piece lists one piece more.
+  listed-count : (lookup : List ℕ) → any (namesNoPiece pieces) lookup ≡ false → lookupAscends pieces lookup ≡ true → count (λ (id : ℕ). isLong (piece pieces id)) lookup ≤ count (longListed lookup) pieces
   unfolding piece
   listed-count [] n e = zero-le
-  listed-count (x ∷ rest) n e =
-      let others = listed-count rest (or-right (namesNoPiece pieces x) (any (namesNoPiece pieces) rest) n) (others-ascend x rest e) in
-      let more = count-fewer (isListed pieces (x ∷ rest)) (isListed pieces rest) (listed-more x rest) pieces x [] (names-piece x (or-left (namesNoPiece pieces x) (any (namesNoPiece pieces) rest) n)) (listed-self x rest) (first-once x rest e) in
-      omega (arith, others, more)
-
-  -- What is listed is not empty.
-  listed-full : (lookup bytes : List ℕ) → any (namesNoPiece pieces) lookup ≡ false → isListed pieces lookup bytes ≡ true → isFull bytes ≡ true
-  unfolding isListed
-  listed-full [] bytes n e = clash refl e
-  listed-full (x ∷ rest) bytes n e = go (same (piece pieces x) bytes) refl (listed-full rest bytes (or-right (namesNoPiece pieces x) (any (namesNoPiece pieces) rest) n))
+  listed-count (x ∷ rest) n e = go (isLong (piece pieces x)) refl (listed-count rest (or-right (namesNoPiece pieces x) (any (namesNoPiece pieces) rest) n) (others-ascend x rest e))
     where
-      go : (b : Bool) → same (piece pieces x) bytes ≡ b → (isListed pieces rest bytes ≡ true → isFull bytes ≡ true) → isFull bytes ≡ true
-      go true s others =
-          let is : piece pieces x ≡ bytes = equal-strings (piece pieces x) bytes (equal-is (byteOrder (piece pieces x) bytes) (sym (same-is-equal (piece pieces x) bytes) ∙ s)) in
-          let full : isEmpty (piece pieces x) ≡ false = sym (no-piece pieces x) ∙ or-left (namesNoPiece pieces x) (any (namesNoPiece pieces) rest) n in
-          rw (← is, full)
-      go false s others = others (sym (ap (λ (b : Bool). b || any (λ (id : ℕ). same (piece pieces id) bytes) rest) s) ∙ e)
+      go : (b : Bool) → isLong (piece pieces x) ≡ b → count (λ (id : ℕ). isLong (piece pieces id)) rest ≤ count (longListed rest) pieces → count (λ (id : ℕ). isLong (piece pieces id)) (x ∷ rest) ≤ count (longListed (x ∷ rest)) pieces
+      go true l others =
+          let fewer : count (longListed rest) pieces < count (longListed (x ∷ rest)) pieces =
+          count-fewer (longListed (x ∷ rest)) (longListed rest) (more-listed x rest) pieces x []
+          (names-piece x (or-left (namesNoPiece pieces x) (any (namesNoPiece pieces) rest) n))
+          (and-both l (listed-self x rest))
+          (rw (l, first-once x rest e)) in
+          rw l (le-trans (suc-le-suc others) fewer)
+      go false l others = rw l (le-trans others (count-most (longListed (x ∷ rest)) (longListed rest) (more-listed x rest) pieces))
 
-  pub none-missing : (lookup : List ℕ) → any (namesNoPiece pieces) lookup ≡ false → lookupAscends pieces lookup ≡ true → count isFull pieces ≡ length lookup → pieceMissing pieces lookup ≡ false
-  unfolding pieceMissing
-  none-missing lookup n e h =
-      count-same isFull (isListed pieces lookup) (λ bytes. listed-full lookup bytes n) pieces (omega (arith, h, listed-count lookup n e))
+  -- As many entries as there are long pieces leave none of them out.
+  pub none-missing : (lookup : List ℕ) → any (namesNoPiece pieces) lookup ≡ false → lookupAscends pieces lookup ≡ true → count isLong pieces ≡ count (λ (id : ℕ). isLong (piece pieces id)) lookup → longMissing pieces lookup ≡ false
+  unfolding longMissing
+  none-missing lookup n e h = any-none _ pieces [] at
+    where
+      at : (i : ℕ) → i < length pieces → (isLong (getD pieces i []) && not (isListed pieces lookup (getD pieces i []))) ≡ false
+      at i k = go (isLong (getD pieces i [])) refl
+        where
+          go : (b : Bool) → isLong (getD pieces i []) ≡ b → (isLong (getD pieces i []) && not (isListed pieces lookup (getD pieces i []))) ≡ false
+          go false l = rw l
+          go true l =
+              let both : longListed lookup (getD pieces i []) ≡ true = count-same isLong (longListed lookup) (λ bytes. and-left (isLong bytes) (isListed pieces lookup bytes)) pieces i [] (rw h (listed-count lookup n e)) k l in
+              rw (l, and-right (isLong (getD pieces i [])) (isListed pieces lookup (getD pieces i [])) both)
+
+  long-inside : (id : ℕ) → isLong (piece pieces id) ≡ true → id < length pieces
+  unfolding isLong
+  long-inside id l = has-id pieces id (le-trans (leb-true 1 2 refl) (ltb-true 1 (length (piece pieces id)) l))
+
+  pub spared : (lookup : List ℕ) (id : ℕ) → longMissing pieces lookup ≡ false → isLong (piece pieces id) ≡ true → isListed pieces lookup (piece pieces id) ≡ true
+  unfolding longMissing piece
+  spared lookup id none l = go (isListed pieces lookup (piece pieces id)) refl
+    where
+      go : (b : Bool) → isListed pieces lookup (piece pieces id) ≡ b → isListed pieces lookup (piece pieces id) ≡ true
+      go true f = f
+      go false f = clash none (any-one (λ (bytes : List ℕ). isLong bytes && not (isListed pieces lookup bytes)) pieces id [] (long-inside id l) (rw (l, f)))

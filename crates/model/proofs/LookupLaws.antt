@@ -13,7 +13,7 @@ use Rattle.model.specs.declared.Order.the-variants.{Less}
 use Rattle.model.specs.declared.Found.{Found}
 use Rattle.model.specs.Model.{piece, lookupId}
 use Rattle.model.specs.Search.{byteOrder, isBefore, pieceOrder, foundPiece, idAt, isAt}
-use Rattle.model.specs.Check.{isFull, namesNoPiece, lookupAscends, isListed, pieceMissing}
+use Rattle.model.specs.Check.{namesNoPiece, lookupAscends, isListed, pieceMissing}
 use Rattle.model.proofs.OrderLaws.{same-is-equal, less-is}
 use Rattle.model.proofs.SearchLaws.{Falls, entry-found, found-any, keys-fall}
 
@@ -98,7 +98,7 @@ module _ (pieces : List (List ℕ)) (lookup : List ℕ) (ascends : lookupAscends
 
 -- Whether a string is not empty and not listed.
 abbrev pub isMissing : List (List ℕ) → List ℕ → List ℕ → Bool
-isMissing pieces lookup bytes = isFull bytes && not (isListed pieces lookup bytes)
+isMissing pieces lookup bytes = not (isEmpty bytes) && not (isListed pieces lookup bytes)
 
 module _ (pieces : List (List ℕ)) (lookup : List ℕ) (id : ℕ) where
   -- Whether one is missing of the pieces from a place on.

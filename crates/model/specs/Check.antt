@@ -108,12 +108,16 @@ lookupAscends pieces lookup = all (λ (p : ℕ × ℕ). isBefore (piece pieces (
 unfoldable pub isListed : List (List ℕ) → List ℕ → List ℕ → Bool
 isListed pieces lookup bytes = any (λ (id : ℕ). same (piece pieces id) bytes) lookup
 
-abbrev pub isFull : List ℕ → Bool
-isFull bytes = not (isEmpty bytes)
-
 -- "Every distinct non-empty piece".
 unfoldable pub pieceMissing : List (List ℕ) → List ℕ → Bool
-pieceMissing pieces lookup = any (λ (bytes : List ℕ). isFull bytes && not (isListed pieces lookup bytes)) pieces
+pieceMissing pieces lookup = any (λ (bytes : List ℕ). not (isEmpty bytes) && not (isListed pieces lookup bytes)) pieces
+
+-- Of the pieces of two bytes or more, which are seldom equal, it is told by their number alone whether one is missing.
+unfoldable pub isLong : List ℕ → Bool
+isLong bytes = ltb 1 (length bytes)
+
+unfoldable pub longMissing : List (List ℕ) → List ℕ → Bool
+longMissing pieces lookup = any (λ (bytes : List ℕ). isLong bytes && not (isListed pieces lookup bytes)) pieces
 
 unfoldable pub badLookup : List (List ℕ) → List ℕ → Bool
 badLookup pieces lookup = any (namesNoPiece pieces) lookup || not (lookupAscends pieces lookup) || pieceMissing pieces lookup

@@ -7,11 +7,12 @@ use crate::tables::string_at;
 use crate::tables::string_count;
 use crate::tables::wide;
 ghost use mathlib.Core.Path.{_≡_};
-ghost use mathlib.Core.Bool.{true, not, _&&_};
+ghost use mathlib.Core.Bool.{true, false, not, _&&_};
+ghost use Prim.Native.Nat.{ℕ};
 ghost use Rattle.utf8.specs.Lists.{any, count, isEmpty};
 ghost use Rattle.model.specs.Model.{strings, piece};
 ghost use Rattle.model.specs.Search.{isBefore};
-ghost use Rattle.model.specs.Check.{isFull, namesNoPiece, lookupAscends, isListed, pieceMissing, badLookup};
+ghost use Rattle.model.specs.Check.{namesNoPiece, lookupAscends, isListed, pieceMissing, isLong, longMissing, badLookup};
 
 // Whether the piece of `id` is empty, as is that of an id which has none.
 fn piece_empty(piece_bytes: &[u8], piece_offsets: &[u32], id: usize) -> bool
@@ -59,15 +60,35 @@ fn lookup_ascends(piece_bytes: &[u8], piece_offsets: &[u32], lookup: &[u32]) -> 
     true
 }
 
-// Whether the piece of `id` is not empty and not in the lookup list.
-fn unlisted(piece_bytes: &[u8], piece_offsets: &[u32], lookup: &[u32], id: usize) -> bool
+// Whether a piece need not be looked for: it has two bytes or more, and all such pieces are listed.
+fn is_spared(long_listed: bool, piece: &[u8]) -> bool
+    ensures { λ r. ⌜ r ≡ («long_listed» && isLong (now (piece .entry))) ⌝ }
+{
+    if long_listed {
+        return 1 < piece.len();
+    }
+    false
+}
+
+// Whether the piece of `id` is not empty and not in the lookup list. `long_listed` may say that all pieces of two bytes or more are.
+fn unlisted(
+    piece_bytes: &[u8],
+    piece_offsets: &[u32],
+    lookup: &[u32],
+    long_listed: bool,
+    id: usize,
+) -> bool
     requires { ⌜ lookupAscends (strings (now «piece_bytes») (now «piece_offsets»)) (now lookup) ≡ true ⌝ }
-    ensures { λ r. let pieces = strings (now («piece_bytes» .entry)) (now («piece_offsets» .entry)) in ⌜ r ≡ (isFull (piece pieces id) && not (isListed pieces (now (lookup .entry)) (piece pieces id))) ⌝ }
+    requires { ⌜ («long_listed» && longMissing (strings (now «piece_bytes») (now «piece_offsets»)) (now lookup)) ≡ false ⌝ }
+    ensures { λ r. let pieces = strings (now («piece_bytes» .entry)) (now («piece_offsets» .entry)) in ⌜ r ≡ (not (isEmpty (piece pieces id)) && not (isListed pieces (now (lookup .entry)) (piece pieces id))) ⌝ }
 {
     if piece_empty(piece_bytes, piece_offsets, id) {
         return false;
     }
     let key = string_at(piece_bytes, piece_offsets, id);
+    if is_spared(long_listed, key) {
+        return false;
+    }
     match find_piece(piece_bytes, piece_offsets, lookup, key) {
         Found::At(_) => false,
         Found::Nothing => true,
@@ -75,14 +96,20 @@ fn unlisted(piece_bytes: &[u8], piece_offsets: &[u32], lookup: &[u32], id: usize
 }
 
 // Whether a piece that is not empty is missing from a lookup list that ascends.
-fn piece_missing(piece_bytes: &[u8], piece_offsets: &[u32], lookup: &[u32]) -> bool
+fn piece_missing(
+    piece_bytes: &[u8],
+    piece_offsets: &[u32],
+    lookup: &[u32],
+    long_listed: bool,
+) -> bool
     requires { ⌜ lookupAscends (strings (now «piece_bytes») (now «piece_offsets»)) (now lookup) ≡ true ⌝ }
+    requires { ⌜ («long_listed» && longMissing (strings (now «piece_bytes») (now «piece_offsets»)) (now lookup)) ≡ false ⌝ }
     ensures { λ r. ⌜ r ≡ pieceMissing (strings (now («piece_bytes» .entry)) (now («piece_offsets» .entry))) (now (lookup .entry)) ⌝ }
 {
     let count = string_count(piece_offsets);
     let mut id = 0;
     while id < count {
-        if unlisted(piece_bytes, piece_offsets, lookup, id) {
+        if unlisted(piece_bytes, piece_offsets, lookup, long_listed, id) {
             return true;
         }
         id += 1;
@@ -90,22 +117,47 @@ fn piece_missing(piece_bytes: &[u8], piece_offsets: &[u32], lookup: &[u32]) -> b
     false
 }
 
-// How many pieces are not empty.
-fn full_pieces(piece_bytes: &[u8], piece_offsets: &[u32]) -> usize
-    ensures { λ r. ⌜ r ≡ count isFull (strings (now («piece_bytes» .entry)) (now («piece_offsets» .entry))) ⌝ }
+// Whether the piece of `id` has two bytes or more.
+fn piece_long(piece_bytes: &[u8], piece_offsets: &[u32], id: usize) -> bool
+    ensures { λ r. ⌜ r ≡ isLong (piece (strings (now («piece_bytes» .entry)) (now («piece_offsets» .entry))) id) ⌝ }
+{
+    let bytes = string_at(piece_bytes, piece_offsets, id);
+    1 < bytes.len()
+}
+
+// How many pieces have two bytes or more.
+fn long_pieces(piece_bytes: &[u8], piece_offsets: &[u32]) -> usize
+    ensures { λ r. ⌜ r ≡ count isLong (strings (now («piece_bytes» .entry)) (now («piece_offsets» .entry))) ⌝ }
 {
     let pieces = string_count(piece_offsets);
     let mut id = 0;
-    let mut full = 0;
+    let mut n = 0;
     while id < pieces {
-        if piece_empty(piece_bytes, piece_offsets, id) {
+        if piece_long(piece_bytes, piece_offsets, id) {
+            n += 1;
             id += 1;
         } else {
-            full += 1;
             id += 1;
         }
     }
-    full
+    n
+}
+
+// How many entries name such a piece.
+fn long_entries(piece_bytes: &[u8], piece_offsets: &[u32], lookup: &[u32]) -> usize
+    ensures { λ r. let pieces = strings (now («piece_bytes» .entry)) (now («piece_offsets» .entry)) in ⌜ r ≡ count (λ (id : ℕ). isLong (piece pieces id)) (now (lookup .entry)) ⌝ }
+{
+    let mut i = 0;
+    let mut n = 0;
+    while i < lookup.len() {
+        if piece_long(piece_bytes, piece_offsets, wide(lookup[i])) {
+            n += 1;
+            i += 1;
+        } else {
+            i += 1;
+        }
+    }
+    n
 }
 
 // Whether the lookup list breaks its rule.
@@ -118,9 +170,8 @@ pub fn bad_lookup(piece_bytes: &[u8], piece_offsets: &[u32], lookup: &[u32]) -> 
     if !lookup_ascends(piece_bytes, piece_offsets, lookup) {
         return true;
     }
-    // Entries that ascend differ, so as many as there are such pieces leave none out; with equal pieces there are fewer.
-    if full_pieces(piece_bytes, piece_offsets) == lookup.len() {
-        return false;
-    }
-    piece_missing(piece_bytes, piece_offsets, lookup)
+    // Entries that ascend differ: where there are as many long ones as long pieces, they leave none out.
+    let pieces = long_pieces(piece_bytes, piece_offsets);
+    let entries = long_entries(piece_bytes, piece_offsets, lookup);
+    piece_missing(piece_bytes, piece_offsets, lookup, pieces == entries)
 }

@@ -1,27 +1,41 @@
 -- How many elements of a list pass a test. Assumes nothing.
 use mathlib.Core.Path.{_≡_, refl}
-use mathlib.Core.Bool.{Bool, true, false, not, _&&_}
+use mathlib.Core.Bool.{Bool, true, false}
 use mathlib.Core.List.{List, [], _∷_}
 use Prim.Native.Nat.{ℕ, zero, suc, _+_, _≤_, _<_}
-use native.Mathlib.Nat.{le-of-suc-le-suc, not-suc-le-zero, le-refl, lt-irrefl}
+use native.Mathlib.Nat.{le-of-suc-le-suc, not-suc-le-zero, le-refl, lt-irrefl, lt-of-lt-of-le, zero-add, add-zero}
 use native.Mathlib.Numerals.{add-one}
 use native.Mathlib.Omega.{arith}
 use lib.ListN.{length, getD, drop, drop-of-length-le}
 use lib.Seq.{drop-cons}
-use Rattle.utf8.specs.Lists.{any, count}
+use Rattle.utf8.specs.Lists.{count}
 use Rattle.utf8.proofs.Tests.{clash}
 
-module _ {ℓ} {A : Type ℓ} (test : A → Bool) (xs : List A) (i : ℕ) (d : A) where
-  -- ---- one element more, and the end
+-- ---- a loop that counts: n of the elements before the place i have passed
 
-  pub count-found : i < length xs → test (getD xs i d) ≡ true → count test (drop i xs) ≡ suc (count test (drop (i + 1) xs))
-  count-found h e = rw (add-one, drop-cons xs i d h, e)
+module _ {ℓ} {A : Type ℓ} (test : A → Bool) (xs : List A) (i n : ℕ) where
+  pub tally : ℕ
+  tally = n + count test (drop i xs)
 
-  pub count-next : i < length xs → test (getD xs i d) ≡ false → count test (drop i xs) ≡ count test (drop (i + 1) xs)
-  count-next h e = rw (add-one, drop-cons xs i d h, e)
+module _ {ℓ} {A : Type ℓ} (test : A → Bool) (xs : List A) where
+  pub tally-start : tally test xs 0 0 ≡ count test xs
+  unfolding tally
+  tally-start = zero-add (count test xs)
 
-  pub count-ended : length xs ≤ i → count test (drop i xs) ≡ 0
-  count-ended h = rw (drop-of-length-le xs h)
+  module _ (i n : ℕ) where
+    pub tally-found : (d : A) → i < length xs → test (getD xs i d) ≡ true → tally test xs i n ≡ tally test xs (i + 1) (n + 1)
+    unfolding tally
+    tally-found d h e =
+        let more : count test (drop i xs) ≡ suc (count test (drop (i + 1) xs)) = rw (add-one, drop-cons xs i d h, e) in
+        omega (arith, more)
+
+    pub tally-next : (d : A) → i < length xs → test (getD xs i d) ≡ false → tally test xs i n ≡ tally test xs (i + 1) n
+    unfolding tally
+    tally-next d h e = rw (add-one, drop-cons xs i d h, e)
+
+    pub tally-ended : length xs ≤ i → tally test xs i n ≡ n
+    unfolding tally
+    tally-ended h = rw (drop-of-length-le xs h, add-zero)
 
 module _ {ℓ} {A : Type ℓ} (test : A → Bool) (x : A) (xs : List A) where
   count-in : test x ≡ true → count test (x ∷ xs) ≡ suc (count test xs)
@@ -61,10 +75,10 @@ module _ {ℓ} {A : Type ℓ} (p q : A → Bool) (narrow : (x : A) → q x ≡ t
       let fewer = count-fewer xs i d (le-of-suc-le-suc h) e f in
       by-adding _ x xs (λ e f g. omega (arith, e, f, fewer)) (λ e f. omega (arith, e, f, fewer)) (λ e f g. omega (arith, e, f, fewer))
 
-  -- Where not fewer pass the second, none passes the first alone.
-  pub count-same : (xs : List A) → count p xs ≤ count q xs → any (λ (x : A). p x && not (q x)) xs ≡ false
-  count-same [] h = refl
-  count-same (x ∷ xs) h =
-      let most = count-most xs in
-      let others : count p xs ≤ count q xs → any (λ (x : A). p x && not (q x)) xs ≡ false = count-same xs in
-      by-adding _ x xs (λ e f g. rw (narrow x g, g) (others (omega (arith, e, f, h)))) (λ e f. absurd (lt-irrefl (count q xs) (omega (arith, e, f, h, most)))) (λ e f g. rw g (others (omega (arith, e, f, h))))
+  -- Where not fewer pass the second, all that pass the first pass it.
+  pub count-same : (xs : List A) (i : ℕ) (d : A) → count p xs ≤ count q xs → i < length xs → p (getD xs i d) ≡ true → q (getD xs i d) ≡ true
+  count-same xs i d h k e = go (q (getD xs i d)) refl
+    where
+      go : (b : Bool) → q (getD xs i d) ≡ b → q (getD xs i d) ≡ true
+      go true f = f
+      go false f = absurd (lt-irrefl (count q xs) (lt-of-lt-of-le (count-fewer xs i d k e f) h))

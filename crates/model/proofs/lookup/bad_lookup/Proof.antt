@@ -1,13 +1,14 @@
 -- `model::lookup::bad_lookup` meets its contract: each answer by the tests that led there.
-use mathlib.Core.Path.{_≡_, sym, _∙_}
-use mathlib.Core.Bool.{true, false}
+use mathlib.Core.Path.{_≡_, refl, sym, _∙_}
+use mathlib.Core.Bool.{Bool, true, false, _&&_}
 use mathlib.Core.List.{List}
 use Prim.Native.Nat.{ℕ}
 use borrow.Author.Needs.{needs}
-use borrow.Author.Tests.{not-true, not-false}
+use borrow.Author.Tests.{eqb-true, not-true, not-false}
+use lib.Dec.{eqb}
 use Rattle.utf8.specs.Lists.{any}
 use Rattle.model.specs.Model.{strings}
-use Rattle.model.specs.Check.{namesNoPiece, lookupAscends, pieceMissing, badLookup}
+use Rattle.model.specs.Check.{namesNoPiece, lookupAscends, badLookup}
 use Rattle.model.proofs.CompleteLaws.{none-missing}
 use Rattle.model.proofs.lookup.bad_lookup.Statement.{statement}
 use Rattle.model.proofs.lookup.bad_lookup.Tie as tie
@@ -21,6 +22,14 @@ named e = sym (e .before .names-no-piece .ensures) ∙ e .if1 .left
 
 ordered : (e : tie.Else2) → lookupAscends (pieces (e .before .before .before .before .before .before .before)) (e .before .before .before .before .before .before .before .args .lookup .now) ≡ true
 ordered e = sym (e .before .lookup-ascends .ensures) ∙ not-false _ (e .if2 .left)
+
+-- a flag that two numbers are equal, and what follows if they are
+if-equal : (a b : ℕ) (missing : Bool) → (a ≡ b → missing ≡ false) → (eqb a b && missing) ≡ false
+if-equal a b missing f = go (eqb a b) refl
+  where
+    go : (t : Bool) → eqb a b ≡ t → (eqb a b && missing) ≡ false
+    go true e = rw e (f (eqb-true a b e))
+    go false e = rw e
 
 names-no-piece-requires : tie.Need-names-no-piece-requires
 names-no-piece-requires c κs = search needs
@@ -42,22 +51,20 @@ returns-2 c =
     let falls : lookupAscends (pieces s) (s .args .lookup .now) ≡ false = sym (c .before .lookup-ascends .ensures) ∙ not-true _ (c .if2 .taken) in
     rw (named (c .before .before), falls)
 
-full-pieces-requires : tie.Need-full-pieces-requires
-full-pieces-requires c κs = search needs
+long-pieces-requires : tie.Need-long-pieces-requires
+long-pieces-requires c κs = search needs
+
+long-entries-requires : tie.Need-long-entries-requires
+long-entries-requires c κs = search needs
+
+piece-missing-requires : tie.Need-piece-missing-requires
+piece-missing-requires c κs =
+    let s = c .before .before .before .before .before .before .before .before .before in
+    (ordered (c .before .before), if-equal _ _ _ (λ e. none-missing (pieces s) (s .args .lookup .now) (named (c .before .before .before .before)) (ordered (c .before .before)) (sym (c .before .long-pieces .ensures) ∙ e ∙ c .long-entries .ensures)))
 
 returns-3 : tie.Need-returns-3
 unfolding badLookup
-returns-3 c =
-    let s = c .before .before .before .before .before .before .before .before .before in
-    let none : pieceMissing (pieces s) (s .args .lookup .now) ≡ false = none-missing (pieces s) (s .args .lookup .now) (named (c .before .before .before .before)) (ordered (c .before .before)) (sym (c .before .full-pieces .ensures) ∙ c .if3 .taken) in
-    rw (named (c .before .before .before .before), ordered (c .before .before), none)
-
-piece-missing-requires : tie.Need-piece-missing-requires
-piece-missing-requires c κs = ordered (c .before .before)
-
-returns-4 : tie.Need-returns-4
-unfolding badLookup
-returns-4 c = rw (named (c .before .before .before .before .before), ordered (c .before .before .before)) (c .piece-missing .ensures)
+returns-3 c = rw (named (c .before .before .before .before .before), ordered (c .before .before .before)) (c .piece-missing .ensures)
 
 pub bad-lookup-spec : {M : Type 1} → statement M
 bad-lookup-spec =
@@ -67,7 +74,7 @@ bad-lookup-spec =
     returns
     lookup-ascends-requires
     returns-2
-    full-pieces-requires
-    returns-3
+    long-pieces-requires
+    long-entries-requires
     piece-missing-requires
-    returns-4)
+    returns-3)

@@ -11,10 +11,10 @@ use Rattle.model.proofs.lookup.piece_missing.Statement.{statement}
 use Rattle.model.proofs.lookup.piece_missing.Tie as tie
 
 abbrev Inv-loop : tie.InvT-loop
-Inv-loop piece-bytes piece-offsets lookup count id₀ id = (count ≡ length (strings piece-bytes piece-offsets)) × (id ≤ count) × (pieceMissing (strings piece-bytes piece-offsets) lookup ≡ missingFrom (strings piece-bytes piece-offsets) lookup id)
+Inv-loop piece-bytes piece-offsets lookup long-listed count id₀ id = (count ≡ length (strings piece-bytes piece-offsets)) × (id ≤ count) × (pieceMissing (strings piece-bytes piece-offsets) lookup ≡ missingFrom (strings piece-bytes piece-offsets) lookup id)
 
 abbrev μ-loop : tie.MeasureT-loop
-μ-loop piece-bytes piece-offsets lookup count id₀ id = count - id
+μ-loop piece-bytes piece-offsets lookup long-listed count id₀ id = count - id
 
 string-count-requires : tie.Need-string-count-requires Inv-loop μ-loop
 string-count-requires c κs = search needs
