@@ -14,7 +14,6 @@ use Rattle.model.specs.declared.Step.{Step}
 use Rattle.model.specs.declared.Step.the-variants.{Prepend, Replace, CollapseSpaces, Strip}
 use Rattle.model.specs.declared.Metaspace.{Metaspace}
 use Rattle.model.specs.declared.Metaspace.the-variants.{Absent, Present}
-use Rattle.model.specs.declared.PrependScheme.{PrependScheme}
 use Rattle.model.specs.declared.PrependScheme.the-variants.{Never, Always, First}
 
 unfoldable pub hasPiece : List (List ℕ) → ℕ → Bool

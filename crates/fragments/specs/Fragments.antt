@@ -1,6 +1,6 @@
 -- The call fragments.
 use Prim.Native.Nat.{ℕ, _+_, max}
-use mathlib.Core.Bool.{Bool, true, false, not, cond}
+use mathlib.Core.Bool.{not, cond}
 use mathlib.Core.List.{List, [], _∷_, _++_}
 use lib.Dec.{leb, ltb}
 use lib.ListN.{length}

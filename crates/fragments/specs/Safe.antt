@@ -1,7 +1,7 @@
 -- Safe places: where a text may be cut into fragments.
 use Prim.Native.Nat.{ℕ, _+_, _-_}
 use mathlib.Core.Bool.{Bool, true, false, not, cond, _&&_, _||_}
-use mathlib.Core.List.{List, [], _∷_}
+use mathlib.Core.List.{List}
 use lib.Dec.{eqb, ltb}
 use lib.ListN.{length, take, drop}
 use Rattle.utf8.specs.Lists.{any, below, startsWith, within, Range}
@@ -9,7 +9,6 @@ use Rattle.utf8.specs.WhiteSpace.{trimEnd}
 use Rattle.model.specs.Model.{Model, Token, contents, tokenAt, piecesOf}
 use Rattle.units.specs.Kinds.{crossings, kindOf, rawPath}
 use Rattle.units.specs.Units.{markCuts}
-use Rattle.units.specs.declared.RawPrepend.{RawPrepend}
 use Rattle.units.specs.declared.RawPrepend.the-variants as prepend
 use Rattle.units.specs.declared.RawPath.{RawPath}
 use Rattle.units.specs.declared.RawPath.the-variants as raw

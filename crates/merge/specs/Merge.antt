@@ -1,7 +1,7 @@
 -- "Merge a unit: the row of lowest rank among adjacent pairs, leftmost of equals, until none."
 -- The rows are given as any function from a pair of ids to its row.
 use Prim.Native.Nat.{ℕ, zero, suc, _+_}
-use mathlib.Core.Bool.{Bool, true, false, cond}
+use mathlib.Core.Bool.{cond}
 use mathlib.Core.List.{List, [], _∷_, _++_}
 use mathlib.Core.Option.{Option, none, some}
 use lib.Dec.{leb}

@@ -12,7 +12,7 @@ use Rattle.utf8.specs.Lists.{isEmpty, all, any, numbered}
 use Rattle.utf8.proofs.Tests.{or-left, or-right, and-left, and-right}
 use Rattle.utf8.proofs.Places.{empty-by-length}
 use Rattle.model.specs.declared.Step.{Step}
-use Rattle.model.specs.Model.{Model, TokenList, contents, piecesOf, stepsOf}
+use Rattle.model.specs.Model.{Model, contents, piecesOf, stepsOf}
 use Rattle.model.specs.Answers.{lowest, done, refused}
 use Rattle.model.specs.Check.{stringTooLong, wrongPieceSizes, wrongRowSizes, wrongTokenSizes, wrongListSizes, wrongStepSizes, wrongSizes, textTooLong, runInOrder, liesOutside, stepSpans, offsetsAstray, spanTooLong, badPiece, namesNoPiece, lookupAscends, pieceMissing, badLookup, fallbackFits, badFallback, rowsAscend, allBelow, rowsJoin, badRow, badToken, badStep, modelTests, checkNumber, checkOutcome}
 

@@ -1,7 +1,7 @@
 -- The model check: answers 1 to 8, each test over the whole model.
 use Prim.Native.Nat.{ℕ, _+_, _-_}
-use mathlib.Core.Bool.{Bool, true, false, not, cond, _&&_, _||_}
-use mathlib.Core.List.{List, [], _∷_, _++_, map}
+use mathlib.Core.Bool.{Bool, not, cond, _&&_, _||_}
+use mathlib.Core.List.{List, [], _∷_, _++_}
 use lib.Dec.{eqb, leb, ltb}
 use lib.ListN.{length, getD}
 use Rattle.utf8.specs.Lists.{isEmpty, all, any, lastOr, neighbours, joinMap, numbered, zip, same}

@@ -1,6 +1,6 @@
 -- The mark U+2581 and the space that it stands for.
 use Prim.Native.Nat.{ℕ}
-use mathlib.Core.Bool.{Bool, true, false, cond, _&&_}
+use mathlib.Core.Bool.{Bool, true, cond, _&&_}
 use mathlib.Core.List.{List, [], _∷_}
 use lib.Dec.{ltb}
 use Rattle.utf8.specs.Lists.{startsWith, endsWith}

@@ -1,7 +1,7 @@
 -- The model as flat tables, and what stands in them: pieces, the lookup of a piece, fallback ids, merge rows, tokens, steps.
 -- A definition takes the tables that it needs and no more; those of a whole model are named at the end.
 use Prim.Native.Nat.{ℕ, _+_}
-use mathlib.Core.Bool.{Bool, true, false, cond, _&&_}
+use mathlib.Core.Bool.{Bool, false, cond, _&&_}
 use mathlib.Core.List.{List, [], _∷_, map}
 use mathlib.Core.Option.{Option, none, some}
 use lib.Dec.{eqb}

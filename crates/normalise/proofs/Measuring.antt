@@ -2,7 +2,7 @@
 use Prim.Native.Nat.{ℕ, _+_, _-_, _≤_, _<_}
 use native.Mathlib.Omega.{arith}
 use mathlib.Core.Path.{_≡_, ap}
-use mathlib.Core.List.{List, [], _++_}
+use mathlib.Core.List.{List, []}
 use lib.ListN.{length, length-append}
 use Rattle.utf8.proofs.Writing.{Begins}
 use Rattle.normalise.specs.declared.Length.the-variants.{Fits, TooLong}

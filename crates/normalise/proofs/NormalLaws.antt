@@ -1,27 +1,27 @@
 -- The outcome of normalise, by the first test that applies.
 use mathlib.Core.Path.{_≡_, refl, sym, ap, _∙_}
-use mathlib.Core.Bool.{Bool, true, false, not, cond}
-use mathlib.Core.List.{List, [], _∷_, _++_}
+use mathlib.Core.Bool.{Bool, true, false, not}
+use mathlib.Core.List.{List, [], _∷_}
 use Prim.Native.Nat.{ℕ, _≤_, _<_, min}
 use native.Mathlib.Nat.{suc-ne-zero}
 use native.Mathlib.Omega.{arith}
 use borrow.Author.Tests.{eq-eqb, ne-eqb, lt-ltb, le-ltb}
-use lib.Dec.{ltb, eqb}
+use lib.Dec.{ltb}
 use lib.ListN.{length}
 use Rattle.utf8.specs.Chars.{valid, longestValidPrefix}
 use Rattle.utf8.proofs.Valid.{valid-by-prefix}
 use Rattle.model.specs.Model.{Model, stepsOf}
-use Rattle.model.specs.Answers.{lowest, zeros, placeOf, scratchAfter, Outcome, ScratchOutcome, outcome, withScratch, done, refused}
+use Rattle.model.specs.Answers.{lowest, zeros, placeOf, scratchAfter, Outcome, ScratchOutcome, outcome, withScratch, refused}
 use Rattle.model.specs.Check.{modelTests, checkNumber, textTooLong}
 use Rattle.model.proofs.AnswerLaws.{lowest-later, lowest-first, tests-positive, tests-of-check, text-too-long, model-bound}
 use Rattle.normalise.specs.Steps.{stepOutputs, stepped}
-use Rattle.normalise.specs.Spaces.{metaspaceOutput, metaspaced}
+use Rattle.normalise.specs.Spaces.{metaspaced}
 use Rattle.normalise.specs.Normalise.{normalised, outgrows, normaliseOutputs, normaliseNumber, normaliseOutcome}
-use Rattle.normalise.specs.Run.{Run, standing, isTooLong, finished, ended, stepsRun, metaspaceRun, normalRun, settledRun}
+use Rattle.normalise.specs.Run.{Run, standing, finished, ended, stepsRun, metaspaceRun, normalRun, settledRun}
 use Rattle.normalise.specs.declared.Ran.the-variants.{Given}
 use Rattle.model.specs.declared.Step.{Step}
 use Rattle.model.specs.declared.Metaspace.{Metaspace}
-use Rattle.normalise.proofs.StandLaws.{Stands, run-too-long, run-stands}
+use Rattle.normalise.proofs.StandLaws.{run-too-long, run-stands}
 
 module _ (m : Model) (text : List ℕ) (first : Bool) (out a b : List ℕ) where
   abbrev room : ℕ

@@ -1,15 +1,15 @@
 -- What a run leaves: the text after its steps, or too long exactly if some output is.
-use mathlib.Core.Path.{_≡_, refl, sym, ap, subst, _∙_}
-use mathlib.Core.Bool.{Bool, true, false, cond, _||_}
+use mathlib.Core.Path.{_≡_, refl, sym, ap, subst}
+use mathlib.Core.Bool.{Bool, true, false, _||_}
 use mathlib.Core.List.{List, [], _∷_, _++_}
 use Prim.Native.Nat.{ℕ, _≤_, _<_, min}
 use native.Mathlib.Omega.{arith}
-use borrow.Author.Tests.{le-leb, lt-leb, lt-ltb, le-ltb, ltb-true, ltb-false}
-use lib.Dec.{ltb, leb}
-use lib.ListN.{take, drop}
+use borrow.Author.Tests.{le-leb, lt-leb, ltb-true, ltb-false}
+use lib.Dec.{ltb}
+use lib.ListN.{drop}
 use lib.ListN as lists
 use lib.Seq.{take-append-seam, length-front, length-take-le}
-use Rattle.utf8.specs.Lists.{any, lastOr}
+use Rattle.utf8.specs.Lists.{lastOr}
 use Rattle.utf8.proofs.Tests.{clash}
 use Rattle.utf8.proofs.Places.{any-append}
 use Rattle.model.specs.declared.Step.{Step}

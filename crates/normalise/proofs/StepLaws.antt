@@ -9,8 +9,8 @@ use borrow.Author.Tests.{le-leb}
 use lib.Dec.{leb}
 use lib.ListN.{length, take, drop, getD, length-append, length-drop, drop-of-length-le}
 use lib.Seq.{drop-cons, drop-drop, length-take-le}
-use Rattle.utf8.specs.Lists.{isEmpty, joinMap, cutBy, same, startsWith}
-use Rattle.utf8.specs.Chars.{charWidth, chars}
+use Rattle.utf8.specs.Lists.{joinMap, cutBy, same, startsWith}
+use Rattle.utf8.specs.Chars.{charWidth}
 use Rattle.utf8.proofs.Lists.{part-to-end}
 use Rattle.utf8.proofs.Cut.{cutBy-step}
 use Rattle.utf8.proofs.Characters.{charWidth-le-length, chars-next, chars-nil}

@@ -1,7 +1,7 @@
 -- Cases: a model, a call on it with what it is lent, and what the call must leave. Whether the definitions agree is computed.
 use Prim.Native.Nat.{ℕ}
-use mathlib.Core.Bool.{Bool, true, false, _&&_}
-use mathlib.Core.List.{List, [], _∷_}
+use mathlib.Core.Bool.{Bool, _&&_}
+use mathlib.Core.List.{List, []}
 use lib.Dec.{eqb}
 use Rattle.utf8.specs.Chars
 use Rattle.utf8.specs.WhiteSpace

@@ -1,8 +1,8 @@
 -- Document 01's table, P1 to P12, proved from the definitions by one computed test over one list.
 use Prim.Native.Nat.{ℕ}
 use mathlib.Core.Path.{_≡_, refl}
-use mathlib.Core.Bool.{Bool, true, false}
-use mathlib.Core.List.{List, [], _∷_, _++_}
+use mathlib.Core.Bool.{true, false}
+use mathlib.Core.List.{List, [], _∷_}
 use lib.ListN.{length, replicate}
 use Rattle.utf8.specs.Lists.{all}
 use Rattle.model.specs.Model.{Model}

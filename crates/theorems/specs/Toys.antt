@@ -1,12 +1,11 @@
 -- Document 01's toy models T and U.
 use Prim.Native.Nat.{ℕ}
-use mathlib.Core.Bool.{Bool, true, false}
+use mathlib.Core.Bool.{false}
 use mathlib.Core.List.{List, [], _∷_, _++_}
 use lib.ListN.{replicate}
 use Rattle.model.specs.Model.{Model, TokenList, noId}
 use Rattle.model.specs.declared.Step.{Step}
 use Rattle.model.specs.declared.Step.the-variants.{Strip}
-use Rattle.model.specs.declared.Metaspace.{Metaspace}
 use Rattle.model.specs.declared.Metaspace.the-variants.{Present}
 use Rattle.model.specs.declared.PrependScheme.the-variants.{Always}
 

@@ -12,7 +12,6 @@ use Rattle.model.specs.declared.Step.{Step}
 use Rattle.model.specs.declared.Step.the-variants.{Prepend, Replace, CollapseSpaces, Strip}
 use Rattle.model.specs.declared.Metaspace.{Metaspace}
 use Rattle.model.specs.declared.Metaspace.the-variants.{Absent, Present}
-use Rattle.model.specs.declared.PrependScheme.{PrependScheme}
 use Rattle.model.specs.declared.PrependScheme.the-variants as scheme
 use Rattle.units.specs.declared.WordSplit.{WordSplit}
 use Rattle.units.specs.declared.WordSplit.the-variants as kind

@@ -1,6 +1,6 @@
 -- Unicode's White_Space, and what it is to trim a text of it.
 use Prim.Native.Nat.{ℕ}
-use mathlib.Core.Bool.{Bool, true, false, cond, _&&_}
+use mathlib.Core.Bool.{Bool, cond, _&&_}
 use mathlib.Core.List.{List, [], _∷_, reverse}
 use lib.ListN.{take}
 use Rattle.utf8.specs.Lists.{any, dropWhile, lastOr, join, Range, within}

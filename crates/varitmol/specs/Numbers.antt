@@ -1,7 +1,7 @@
 -- Steps and metaspace as a caller in C gives them. An exported function takes no enum, so they come as numbers: a kind and four
 -- numbers a step, and two numbers for metaspace.
 use Prim.Native.Nat.{ℕ, _+_, _*_}
-use mathlib.Core.Bool.{Bool, true, false, not, cond, _&&_, _||_}
+use mathlib.Core.Bool.{Bool, not, cond, _&&_, _||_}
 use mathlib.Core.List.{List, map}
 use lib.Dec.{eqb, ltb}
 use lib.ListN.{length, getD}

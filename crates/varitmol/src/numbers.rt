@@ -6,7 +6,6 @@ use model::Step;
 use model::tables::number_at;
 ghost use mathlib.Core.Path.{_≡_};
 ghost use Prim.Native.Nat.{_<_, _≤_};
-ghost use lib.Dec.{eqb};
 ghost use lib.ListN.{length, getD};
 ghost use Rattle.varitmol.specs.Numbers.{stepNumber, spanAt, stepOf, stepsFrom, schemeOf, metaspaceFrom, wrongStep, wrongSteps, wrongNumbers};
 

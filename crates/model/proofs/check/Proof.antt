@@ -4,7 +4,7 @@ use mathlib.Core.Bool.{false, _||_}
 use borrow.Author.Needs.{needs}
 use Rattle.model.specs.Model.{Model, modelOf, tokenList, contents, piecesOf, stepsOf}
 use Rattle.model.specs.Check.{wrongSizes, wrongListSizes, offsetsAstray, badPiece, badLookup, badFallback, badRow, badToken, badStep, spanFails}
-use Rattle.model.proofs.Accepted.{SizesFine, sizes-fine, refuses-1, refuses-2, refuses-3, refuses-4, refuses-5, refuses-6, refuses-7, refuses-8, accepts}
+use Rattle.model.proofs.Accepted.{sizes-fine, refuses-1, refuses-2, refuses-3, refuses-4, refuses-5, refuses-6, refuses-7, refuses-8, accepts}
 use Rattle.model.proofs.check.Statement.{statement}
 use Rattle.model.proofs.check.Tie as tie
 

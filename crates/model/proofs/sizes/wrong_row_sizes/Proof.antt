@@ -1,6 +1,5 @@
 -- `model::sizes::wrong_row_sizes` meets its contract: each answer by the tests that led there.
 use mathlib.Core.Bool.{and-true}
-use borrow.Author.Needs.{needs}
 use borrow.Author.Tests.{lt-ltb, le-ltb, eq-eqb, ne-eqb}
 use lib.Dec.{eqb}
 use lib.ListN.{length}

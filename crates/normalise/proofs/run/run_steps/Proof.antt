@@ -1,5 +1,5 @@
 -- `normalise::run::run_steps` meets its contract. The loop's invariant: the steps from `i` on, run from where the text stands, end as all do.
-use mathlib.Core.Path.{_≡_, refl, sym, ap, _∙_}
+use mathlib.Core.Path.{_≡_, sym, ap, _∙_}
 use Prim.Native.Nat.{_+_, _-_, _≤_}
 use borrow.Author.Needs.{needs}
 use native.Mathlib.Omega.{arith}

@@ -1,5 +1,5 @@
 -- `varitmol::numbers::steps_from` meets its contract. The loop's invariant: the first `i` steps stand in the array.
-use mathlib.Core.Path.{_≡_, refl, sym, ap, _∙_}
+use mathlib.Core.Path.{_≡_, refl}
 use Prim.Native.Nat.{_-_, _≤_}
 use borrow.Author.Needs.{needs}
 use lib.ListN.{length, take}
