@@ -1,14 +1,13 @@
 #!/usr/bin/env python3
 """Runs the library's normalise beside the Rust's on the same random steps and texts, then times both on the same texts.
 
-    rt staticlib varitmol
-    gcc -shared -o target/libvaritmol.so -Wl,--whole-archive target/staticlib/libvaritmol.a -Wl,--no-whole-archive
-    tools/against_rust.py RUST target/libvaritmol.so [--cases 20000] [--seed 1]
+    tools/against_rust.py RUST LIBRARY [--cases 20000] [--seed 1]
 
 RUST is the folder that has bpe/sentencepiece.rs. What normalise needs of that file is cut out as it stands, but for the
-precompiled charsmap, which was not carried over, and compiled with rustc outside the repository. The first cases that
-differ are printed. Times are the best of five calls; both sides start from bytes, so both test that they are UTF-8, and
-the library checks its model too, which is an empty one. The exit status is 0 only if no case differed.
+precompiled charsmap, which was not carried over, and compiled with rustc outside the repository. LIBRARY is the static
+library as a shared one; tools/library.py has the commands that make it. The first cases that differ are printed. Times are
+the best of five calls; both sides start from bytes, so both test that they are UTF-8, and the library checks its model too,
+which is an empty one. The exit status is 0 only if no case differed.
 """
 import argparse
 import ctypes
@@ -17,7 +16,8 @@ import random
 import re
 import subprocess
 import tempfile
-import time
+
+from library import NO_TOKENS, best_time, function, octets, words
 
 PREPEND, REPLACE, COLLAPSE, STRIP = range(4)
 SIZES = (1 << 14, 1 << 17, 1 << 20)
@@ -107,19 +107,9 @@ def rust_program(folder, work):
     return program
 
 
-class Answer(ctypes.Structure):
-    _fields_ = [("number", ctypes.c_uint32)] + [(name, ctypes.c_size_t) for name in ("place", "written", "drops", "skips")]
-
-
-def lent(kind, values):
-    return [(kind * max(1, len(values)))(*values), ctypes.c_size_t(len(values))]
-
-
 class Library:
     def __init__(self, path, most):
-        lib = ctypes.CDLL(path)
-        self.normalise = lib.varitmol_normalise
-        self.normalise.restype = Answer
+        self.normalise = function(path, "varitmol_normalise")
         self.buffers = [(ctypes.c_uint8 * most)() for _ in range(3)]
 
     def arguments(self, steps, metaspace, first, text, room):
@@ -131,12 +121,10 @@ class Library:
                 for string in (one, two):
                     spans += [len(strings), len(string)]
                     strings += string
-        octet, word, flag = ctypes.c_uint8, ctypes.c_uint32, ctypes.c_bool
-        no_tokens = lent(octet, b"") + lent(word, [0]) + lent(word, []) + lent(flag, []) * 2
-        columns = lent(octet, b"") + lent(word, [0]) + lent(word, []) + lent(word, [4294967295] * 256) + lent(word, []) * 4
-        steps = lent(octet, strings) + lent(octet, [kind for kind, _, _ in steps]) + lent(word, spans)
-        out = [x for buffer in self.buffers for x in (buffer, ctypes.c_size_t(room))]
-        return (columns + no_tokens * 2 + steps + [octet(metaspace), octet(0)] + [ctypes.c_char_p(text), ctypes.c_size_t(len(text)), flag(first)] + out)
+        no_pieces = octets(b"") + words([0]) + words([]) + words([4294967295] * 256) + words([]) * 4
+        given = octets(strings) + octets([kind for kind, _, _ in steps]) + words(spans) + [ctypes.c_uint8(metaspace), ctypes.c_uint8(0)]
+        buffers = [x for buffer in self.buffers for x in (buffer, ctypes.c_size_t(room))]
+        return no_pieces + NO_TOKENS * 2 + given + [ctypes.c_char_p(text), ctypes.c_size_t(len(text)), ctypes.c_bool(first)] + buffers
 
     def result(self, case, room):
         answer = self.normalise(*self.arguments(*case, room))
@@ -175,17 +163,6 @@ def timed_cases(size):
         yield name, (steps, metaspace, True, text)
 
 
-def best_time(library, case):
-    arguments = library.arguments(*case, 4 * len(case[3]))
-    times = []
-    for _ in range(5):
-        start = time.perf_counter_ns()
-        answer = library.normalise(*arguments)
-        times.append(time.perf_counter_ns() - start)
-        assert answer.number == 0, answer.number
-    return min(times)
-
-
 def main():
     p = argparse.ArgumentParser()
     p.add_argument("rust")
@@ -210,7 +187,8 @@ def main():
         print(f"{len(cases) - bad} the same, {bad} differ")
         for size in SIZES:
             for name, case in timed_cases(size):
-                ours, theirs = best_time(library, case), int(rust([line(5, case)])[0])
+                ours = best_time(library.normalise, library.arguments(*case, 4 * len(case[3])), 5)
+                theirs = int(rust([line(5, case)])[0])
                 print(f"{name}, {len(case[3])} bytes: {ours / len(case[3]):.2f} ns a byte, {ours / theirs:.2f} times the Rust's time")
     raise SystemExit(bool(bad))
 

@@ -1,10 +1,9 @@
 #!/usr/bin/env python3
 """Times the model check on accepted models of growing size.
 
-    rt staticlib varitmol
-    gcc -shared -o target/libvaritmol.so -Wl,--whole-archive target/staticlib/libvaritmol.a -Wl,--no-whole-archive
-    tools/check_speed.py target/libvaritmol.so
+    tools/check_speed.py LIBRARY
 
+LIBRARY is the static library as a shared one; tools/library.py has the commands that make it.
 A model's pieces are the 256 bytes to fall back on and random words with all their parts, its rows all the ways to join
 two such parts to a third, up to a number. So each letter of one byte is there twice, as in models that people use. A line
 has the best of ten calls, and of ten on the same model with its longest piece twice too: then the check looks for every
@@ -13,19 +12,12 @@ piece in the lookup list.
 import ctypes
 import random
 import sys
-import time
+
+from library import NO_TOKENS, best_time, function, octets, words
 
 # Pieces and rows wanted.
 SIZES = ((4000, 12500), (8000, 25000), (16000, 50000), (32000, 100000), (64000, 200000))
 LETTERS = "▁▁eeeettaaooiinnsshrrdlucmfwygpbvkxqjzé"
-
-
-class Answer(ctypes.Structure):
-    _fields_ = [("number", ctypes.c_uint32)] + [(name, ctypes.c_size_t) for name in ("place", "written", "drops", "skips")]
-
-
-def lent(kind, values):
-    return [(kind * max(1, len(values)))(*values), ctypes.c_size_t(len(values))]
 
 
 def model(pieces_wanted, rows_wanted):
@@ -43,34 +35,22 @@ def model(pieces_wanted, rows_wanted):
 
 
 def columns(pieces, rows):
-    octet, word, flag = ctypes.c_uint8, ctypes.c_uint32, ctypes.c_bool
     offsets = [0]
     for p in pieces:
         offsets.append(offsets[-1] + len(p))
     lookup = sorted({p: i for i, p in enumerate(pieces)}.values(), key=pieces.__getitem__)
     left, right, result = ([row[k] for row in rows] for k in range(3))
-    no_tokens = lent(octet, b"") + lent(word, [0]) + lent(word, []) + lent(flag, []) * 2
-    return (lent(octet, b"".join(pieces)) + lent(word, offsets) + lent(word, lookup) + lent(word, range(256))
-            + lent(word, left) + lent(word, right) + lent(word, result) + lent(word, range(len(rows)))
-            + no_tokens * 2 + lent(octet, b"") * 2 + lent(word, []) + [octet(2), octet(0)])
-
-
-def best_time(check, lent_columns):
-    times = []
-    for _ in range(10):
-        start = time.perf_counter_ns()
-        answer = check(*lent_columns)
-        times.append(time.perf_counter_ns() - start)
-        assert answer.number == 0, answer.number
-    return min(times) / 1e6
+    no_steps = octets(b"") + octets(b"") + words([])
+    return (octets(b"".join(pieces)) + words(offsets) + words(lookup) + words(range(256))
+            + words(left) + words(right) + words(result) + words(range(len(rows)))
+            + NO_TOKENS * 2 + no_steps + [ctypes.c_uint8(2), ctypes.c_uint8(0)])
 
 
 def main():
-    check = ctypes.CDLL(sys.argv[1]).varitmol_check
-    check.restype = Answer
+    check = function(sys.argv[1], "varitmol_check")
     for size in SIZES:
         pieces, rows = model(*size)
-        usual, twice = (best_time(check, columns(p, rows)) for p in (pieces, pieces + [max(pieces, key=len)]))
+        usual, twice = (best_time(check, columns(p, rows), 10) / 1e6 for p in (pieces, pieces + [max(pieces, key=len)]))
         print(f"{len(pieces)} pieces, {len(rows)} rows: {usual:.2f} ms; with a long piece twice {twice:.2f} ms")
 
 
