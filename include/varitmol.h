@@ -1,7 +1,7 @@
 /* Varitmol's calls for C.
  *
- * Every slice is a pointer and a length in elements. A slice of no elements may not be NULL: any other pointer will do. Slices that
- * are not const may overlap no other slice. A bool is 0 or 1. A call keeps nothing and allocates nothing.
+ * Every slice is a pointer and a length in elements. A pointer is aligned for its type and not NULL, even for a slice of no
+ * elements. Slices that are not const may overlap no other slice. A bool is 0 or 1. A call keeps nothing and allocates nothing.
  *
  * The model's columns are the same in every call:
  *
@@ -45,7 +45,8 @@ extern "C" {
 
 /* The answer's number. The lowest that applies is given. */
 #define VARITMOL_ACCEPTED 0
-#define VARITMOL_WRONG_SIZE 1        /* a size is exceeded, columns differ in length, or steps or metaspace are no such numbers */
+#define VARITMOL_WRONG_SIZE 1        /* a size is exceeded, an offset row is empty, columns differ in length, fallback
+                                        has not 256 ids, or steps or metaspace are no such numbers */
 #define VARITMOL_OFFSETS_ASTRAY 2    /* offsets or step strings do not lie in order inside their bytes */
 #define VARITMOL_BAD_PIECE 3         /* a piece is neither valid UTF-8 nor one byte */
 #define VARITMOL_BAD_LOOKUP 4        /* the lookup list is out of order, incomplete, or names no piece */
@@ -61,8 +62,8 @@ typedef struct {
     uint32_t number;
     size_t place;   /* for VARITMOL_BAD_TEXT the length of the longest valid prefix, else 0 */
     size_t written; /* cells of the result, 0 after a refusal */
-    size_t drops;   /* characters that no piece spells */
-    size_t skips;   /* ids that have no piece */
+    size_t drops;   /* characters that no piece spells; 0 in the calls below */
+    size_t skips;   /* ids that have no piece; 0 in the calls below */
 } varitmol_answer;
 
 /* Whether the model is accepted: 0, or the lowest of 1 to 8 that applies. */

@@ -112,15 +112,16 @@ isListed pieces lookup bytes = any (λ (id : ℕ). same (piece pieces id) bytes)
 unfoldable pub pieceMissing : List (List ℕ) → List ℕ → Bool
 pieceMissing pieces lookup = any (λ (bytes : List ℕ). not (isEmpty bytes) && not (isListed pieces lookup bytes)) pieces
 
--- Of the pieces of two bytes or more, which are seldom equal, it is told by their number alone whether one is missing.
+unfoldable pub badLookup : List (List ℕ) → List ℕ → Bool
+badLookup pieces lookup = any (namesNoPiece pieces) lookup || not (lookupAscends pieces lookup) || pieceMissing pieces lookup
+
+-- No sentence of document 01: the part of `pieceMissing` that is about pieces of two bytes or more. That it is false can be told by
+-- counting.
 unfoldable pub isLong : List ℕ → Bool
 isLong bytes = ltb 1 (length bytes)
 
 unfoldable pub longMissing : List (List ℕ) → List ℕ → Bool
 longMissing pieces lookup = any (λ (bytes : List ℕ). isLong bytes && not (isListed pieces lookup bytes)) pieces
-
-unfoldable pub badLookup : List (List ℕ) → List ℕ → Bool
-badLookup pieces lookup = any (namesNoPiece pieces) lookup || not (lookupAscends pieces lookup) || pieceMissing pieces lookup
 
 -- 5, of a byte and its entry: "a fallback id other than none is not below the piece count, or its piece is not that one byte"
 unfoldable pub fallbackFits : List (List ℕ) → ℕ × ℕ → Bool

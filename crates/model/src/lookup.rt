@@ -95,7 +95,7 @@ fn unlisted(
     }
 }
 
-// Whether a piece that is not empty is missing from a lookup list that ascends.
+// Whether a piece that is not empty is missing from a lookup list that ascends. `long_listed` is as above.
 fn piece_missing(
     piece_bytes: &[u8],
     piece_offsets: &[u32],
@@ -143,7 +143,7 @@ fn long_pieces(piece_bytes: &[u8], piece_offsets: &[u32]) -> usize
     n
 }
 
-// How many entries name such a piece.
+// How many entries name a piece of two bytes or more.
 fn long_entries(piece_bytes: &[u8], piece_offsets: &[u32], lookup: &[u32]) -> usize
     ensures { λ r. let pieces = strings (now («piece_bytes» .entry)) (now («piece_offsets» .entry)) in ⌜ r ≡ count (λ (id : ℕ). isLong (piece pieces id)) (now (lookup .entry)) ⌝ }
 {

@@ -90,7 +90,7 @@ fn normalise_and_tell(
     io::write_all(1, b"\n");
 }
 
-// Lends a result buffer of `out_room` bytes and scratch of `a_room` and `b_room`, each at most `ROOM`.
+// Lends a result buffer of `out_room` bytes and scratch of `a_room` and `b_room`; writes no line where one is above `ROOM`.
 fn with_rooms(
     name: &[u8],
     steps: [Step; 16],

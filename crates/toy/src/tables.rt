@@ -3,7 +3,7 @@ use model::Span;
 use model::Step;
 
 // T: pieces 0 mark, 1 `a`, 2 `b`, 3 `ab`, 4 mark+`a`, 5 `.`, 6 byte C3, 7 byte A9; rows (0,1)->4 rank 1, (1,2)->3 rank 0.
-pub(crate) const PIECES_T: [u8; 14] = [
+const PIECES_T: [u8; 14] = [
     0xE2,
     0x96,
     0x81,
@@ -20,15 +20,15 @@ pub(crate) const PIECES_T: [u8; 14] = [
     0xA9,
 ];
 
-pub(crate) const OFFSETS_T: [u32; 9] = [0, 3, 4, 5, 7, 11, 12, 13, 14];
+const OFFSETS_T: [u32; 9] = [0, 3, 4, 5, 7, 11, 12, 13, 14];
 
-pub(crate) const LOOKUP_T: [u32; 8] = [5, 1, 3, 2, 7, 6, 0, 4];
+const LOOKUP_T: [u32; 8] = [5, 1, 3, 2, 7, 6, 0, 4];
 
 pub(crate) const LEFT_T: [u32; 2] = [0, 1];
 
 pub(crate) const RIGHT_T: [u32; 2] = [1, 2];
 
-pub(crate) const RESULT_T: [u32; 2] = [4, 3];
+const RESULT_T: [u32; 2] = [4, 3];
 
 pub(crate) const RANK_T: [u32; 2] = [1, 0];
 

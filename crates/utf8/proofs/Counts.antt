@@ -49,23 +49,23 @@ module _ {ℓ} {A : Type ℓ} (p q : A → Bool) (narrow : (x : A) → q x ≡ t
 
   -- What an element adds to the two counts: to both, to the first alone, or to none.
   by-adding {κ} : (B : Type κ) (x : A) (xs : List A)
-      → (count p (x ∷ xs) ≡ suc (count p xs) → count q (x ∷ xs) ≡ suc (count q xs) → q x ≡ true → B)
+      → (count p (x ∷ xs) ≡ suc (count p xs) → count q (x ∷ xs) ≡ suc (count q xs) → B)
       → (count p (x ∷ xs) ≡ suc (count p xs) → count q (x ∷ xs) ≡ count q xs → B)
-      → (count p (x ∷ xs) ≡ count p xs → count q (x ∷ xs) ≡ count q xs → p x ≡ false → B)
+      → (count p (x ∷ xs) ≡ count p xs → count q (x ∷ xs) ≡ count q xs → B)
       → B
   by-adding B x xs both first none = go (p x) (q x) refl refl
     where
       go : (a b : Bool) → p x ≡ a → q x ≡ b → B
-      go true true e f = both (count-in p x xs e) (count-in q x xs f) f
+      go true true e f = both (count-in p x xs e) (count-in q x xs f)
       go true false e f = first (count-in p x xs e) (count-out q x xs f)
       go false true e f = clash e (narrow x f)
-      go false false e f = none (count-out p x xs e) (count-out q x xs f) e
+      go false false e f = none (count-out p x xs e) (count-out q x xs f)
 
   pub count-most : (xs : List A) → count q xs ≤ count p xs
   count-most [] = le-refl 0
   count-most (x ∷ xs) =
       let most = count-most xs in
-      by-adding _ x xs (λ e f g. omega (arith, e, f, most)) (λ e f. omega (arith, e, f, most)) (λ e f g. omega (arith, e, f, most))
+      by-adding _ x xs (λ e f. omega (arith, e, f, most)) (λ e f. omega (arith, e, f, most)) (λ e f. omega (arith, e, f, most))
 
   -- Fewer pass the second, where one passes the first alone.
   pub count-fewer : (xs : List A) (i : ℕ) (d : A) → i < length xs → p (getD xs i d) ≡ true → q (getD xs i d) ≡ false → count q xs < count p xs
@@ -73,7 +73,7 @@ module _ {ℓ} {A : Type ℓ} (p q : A → Bool) (narrow : (x : A) → q x ≡ t
   count-fewer (x ∷ xs) zero d h e f = omega (arith, count-in p x xs e, count-out q x xs f, count-most xs)
   count-fewer (x ∷ xs) (suc i) d h e f =
       let fewer = count-fewer xs i d (le-of-suc-le-suc h) e f in
-      by-adding _ x xs (λ e f g. omega (arith, e, f, fewer)) (λ e f. omega (arith, e, f, fewer)) (λ e f g. omega (arith, e, f, fewer))
+      by-adding _ x xs (λ e f. omega (arith, e, f, fewer)) (λ e f. omega (arith, e, f, fewer)) (λ e f. omega (arith, e, f, fewer))
 
   -- Where not fewer pass the second, all that pass the first pass it.
   pub count-same : (xs : List A) (i : ℕ) (d : A) → count p xs ≤ count q xs → i < length xs → p (getD xs i d) ≡ true → q (getD xs i d) ≡ true

@@ -32,7 +32,8 @@ stepOf kind spans i =
     (cond (eqb kind 2) (CollapseSpaces (spanAt spans i 0))
     (Strip (eqb (stepNumber spans i 0) 1) (eqb (stepNumber spans i 1) 1))))
 
--- The array of 16 steps. Only as many as there are kinds are the model's; behind them stand Strips that strip nothing.
+-- The array of 16 steps. Only as many as there are kinds are the model's; behind them, where spans are four a
+-- kind, stand Strips that strip nothing.
 unfoldable pub stepsFrom : List ℕ → List ℕ → List Step
 stepsFrom kinds spans = map (λ (i : ℕ). stepOf (getD kinds i 3) spans i) (below 16)
 

@@ -146,7 +146,7 @@ fn wrong_steps(kinds: &[u8], spans: &[u32]) -> bool
     false
 }
 
-// The numbers name no steps and no metaspace.
+// Whether the numbers are wrong: they stand for no steps, or for no metaspace.
 pub fn wrong_numbers(kinds: &[u8], spans: &[u32], metaspace: u8, split: u8) -> bool
     ensures { λ r. ⌜ r ≡ wrongNumbers (now (kinds .entry)) (now (spans .entry)) metaspace split ⌝ }
 {
