@@ -24,7 +24,7 @@ SIZES = (1 << 14, 1 << 17, 1 << 20)
 # White space of one to three bytes, look-alikes that are none, the mark, letters of one to four bytes.
 ALPHABET = [" ", " ", " ", "a", "b", ".", "\t", "\r", "\n", "\u0085", "\u00a0", "\u1680", "\u2003", "\u2028", "\u202f", "\u205f",
             "\u3000", "\u200b", "\u180e", "\ufeff", "\u2581", "\u2581", "é", "漢", "😀"]
-CHARSMAP = (r"    /// `Precompiled` charsmap[^\n]*\n    Precompiled\(PrecompiledCharsmap\),\n",
+CHARSMAP = (r"    ///[^\n]*\n    Precompiled\(PrecompiledCharsmap\),\n",
             r" *NormOp::Precompiled\(charsmap\) => \{.*?\n                \}\n")
 DRIVER = """
 use std::io::{BufRead, Write};
