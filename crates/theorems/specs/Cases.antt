@@ -97,7 +97,7 @@ unfolding Chars.charForms Chars.charWidth Chars.chars Chars.isChar Chars.valid C
     Spaces.spacesMarked Spaces.schemePrepends Spaces.markPrepended Spaces.metaspaceOutput Spaces.metaspaced
     Normalise.normalised Normalise.outgrows Normalise.normaliseOutputs Normalise.normaliseNumber Normalise.normaliseOutcome
     Kinds.crossesAt Kinds.crossingAt Kinds.crossingsOf Kinds.crossings Kinds.holdsMark Kinds.isTangled Kinds.splits Kinds.wordSplit Kinds.kindOf Kinds.isPrependMark Kinds.isSpaceReplace Kinds.isPresent Kinds.prependOf Kinds.rawPathOf Kinds.isNone Kinds.rawPath Kinds.hasRawPath
-    Units.spanned Units.markCuts Units.punctuation Units.holdsPair Units.byteBefore Units.punctuationCuts Units.cut Units.units
+    Units.spanned Units.markCuts Units.punctuation Units.holdsPair Units.byteBefore Units.punctuationCuts Units.cutBy Units.cut Units.units
     Start.vocabularyOf Start.ownId Start.fallbackIds Start.startingIds Start.isDropped Start.asMark Start.unitChars Start.withVirtualMark
     Merge.candidates Merge.nextMerge Merge.mergedAt Merge.merged
     Matches.end Matches.longestAt Matches.matches

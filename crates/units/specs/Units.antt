@@ -36,15 +36,17 @@ unfoldable pub byteBefore : Bool → List ℕ → ℕ → ℕ
 byteBefore raw section p = let b = getD section (p - 1) 0 in cond (raw && eqb b 0x20) 0x81 b
 
 -- "A unit also starts at one of . , " ) ; : ! ? when no piece holds the byte before it directly followed by it."
-unfoldable pub punctuationCuts : WordSplit → List (List ℕ) → Bool → List ℕ → ℕ → Bool
-punctuationCuts kind pieces raw section p =
-    not (isNone kind) && any (eqb (getD section p 0)) punctuation && not (holdsPair pieces (byteBefore raw section p) (getD section p 0))
+unfoldable pub punctuationCuts : WordSplit → (ℕ → ℕ → Bool) → Bool → List ℕ → ℕ → Bool
+punctuationCuts kind holds raw section p =
+    not (isNone kind) && any (eqb (getD section p 0)) punctuation && not (holds (byteBefore raw section p) (getD section p 0))
 
--- A unit starts at p, which lies behind the section's first byte. "Kind None: one unit."
+-- A unit starts at p, which lies behind the section's first byte. "Kind None: one unit." What a model decides is given: its kind, its
+-- crossings, and which pairs of bytes its pieces hold.
+unfoldable pub cutBy : WordSplit → List Crossing → (ℕ → ℕ → Bool) → Bool → List ℕ → ℕ → Bool
+cutBy kind noted holds raw section p = ltb 0 p && (markCuts kind noted raw section p || punctuationCuts kind holds raw section p)
+
 unfoldable pub cut : Model → Bool → List ℕ → ℕ → Bool
-cut m raw section p =
-    ltb 0 p
-    && (markCuts (kindOf m) (crossings (piecesOf m)) raw section p || punctuationCuts (kindOf m) (piecesOf m) raw section p)
+cut m raw section p = cutBy (kindOf m) (crossings (piecesOf m)) (holdsPair (piecesOf m)) raw section p
 
 -- The section cut at all such places.
 unfoldable pub units : Model → Bool → List ℕ → List (List ℕ)
