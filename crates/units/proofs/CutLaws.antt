@@ -6,25 +6,27 @@ use mathlib.Core.Path.{_≡_, refl, sym, ap, ap₂, _∙_, subst}
 use mathlib.Core.Bool.{Bool, true, false, not, cond, _&&_, _||_, and-false}
 use mathlib.Core.Logic.{_⊎_, inl, inr, ⊎-elim}
 use mathlib.Core.List.{List, [], _∷_, _++_, map, append-assoc, append-nil}
-use borrow.Author.Tests.{eqb-true, eqb-false, eq-eqb, ne-eqb, ltb-true, ltb-false, lt-ltb, not-false}
+use borrow.Author.Tests.{eqb-true, eqb-false, eq-eqb, ne-eqb, ltb-true, ltb-false, lt-ltb, not-false, not-true}
 use lib.Dec.{eqb, ltb}
 use lib.ListN.{length, take, drop, getD, length-append, length-drop, take-append-drop, drop-of-length-le, List·getD-eq-default}
 use lib.Seq.{take-append-seam, drop-append-seam, drop-append-add, drop-drop, length-take-le, drop-cons, take-suc}
-use Rattle.utf8.specs.Lists.{all, any, filter, lastOr, join, joinMap, neighbours, neighboursFrom, below, same, startsWith, endsWith}
-use Rattle.utf8.specs.Chars.{charForms, charWidth, chars, isChar, valid}
+use Rattle.utf8.specs.Lists.{all, any, filter, lastOr, join, joinMap, neighbours, neighboursFrom, below, same, startsWith, endsWith, within}
+use Rattle.utf8.specs.Chars.{tail, charForms, charWidth, chars, isChar, valid}
 use Rattle.utf8.proofs.Tests.{either, clash, and-left, and-right, and-both, or-left, or-right, or-also}
 use Rattle.utf8.proofs.Lists.{lastOr-append}
 use Rattle.utf8.proofs.Places.{any-one, any-append, getD-countFrom, length-countFrom}
 use Rattle.utf8.proofs.Characters.{startsInTail}
 use Rattle.utf8.proofs.Valid.{valid-append, valid-cut}
 use Rattle.utf8.proofs.Starts.{same-eq}
-use Rattle.utf8.proofs.Joins.{append-cancel, ends-append, valid-starts}
+use Rattle.utf8.proofs.Joins.{append-cancel, starts-rest, ends-append, valid-starts}
 use Rattle.model.specs.Model.{Model, piece, piecesOf}
 use Rattle.model.specs.Check.{neitherTextNorByte, badPiece}
 use Rattle.model.specs.Mark.{mark, space, markWidth, startsWithMark, endsWithMark}
 use Rattle.model.proofs.CheckLaws.{has-id}
-use Rattle.units.specs.Kinds.{Crossing, crossesAt, crossingAt, crossingsOf, crossings, holdsMark, isTangled, isNone, kindOf}
+use Rattle.units.specs.Kinds.{Crossing, crossesAt, crossingAt, crossingsOf, crossings, holdsMark, isTangled, splits, wordSplit, isNone, kindOf}
 use Rattle.units.specs.Units.{spanned, markCuts, punctuation, holdsPair, byteBefore, punctuationCuts, cutBy, cut}
+use Rattle.units.specs.declared.WordSplit.{WordSplit}
+use Rattle.units.specs.declared.WordSplit.the-variants.{SpaceRuns, EveryMark, None}
 use Rattle.units.proofs.ShownLaws.{shownByte, shown, prefix, shown-append, shown-mark, shown-unmarked, mark-held, Complete, shown-start, shown-end, shown-plain, shown-ends-mark}
 
 -- No piece is an end of the one string followed by a beginning of the other.
@@ -243,3 +245,181 @@ snoc (x ∷ []) pos = record { front = []; last = x; whole = refl }
 snoc (x ∷ y ∷ l) pos =
     let s = snoc (y ∷ l) (omega arith) in
     record { front = x ∷ s .front; last = s .last; whole = ap {B = List ℕ} (λ r. x ∷ r) (s .whole) }
+
+-- A byte's spelling ends with the byte, or with 0x81 for a raw space.
+record ShownLast (raw : Bool) (b : ℕ) : Type 0 where
+  front : List ℕ
+  whole : shownByte raw b ≡ front ++ (cond (raw && eqb b 0x20) 0x81 b ∷ [])
+
+shown-last : (raw : Bool) (b : ℕ) → ShownLast raw b
+unfolding mark
+shown-last raw b = go (raw && eqb b 0x20) refl
+  where
+    go : (x : Bool) → (raw && eqb b 0x20) ≡ x → ShownLast raw b
+    go true e = record { front = 0xE2 ∷ 0x96 ∷ []; whole = rw e }
+    go false e = record { front = []; whole = rw e }
+
+not-space : (b : ℕ) → any (eqb b) punctuation ≡ true → eqb b 0x20 ≡ false
+unfolding punctuation
+not-space b e = ⊎-elim (λ t. clash refl (ap (λ (x : ℕ). any (eqb x) punctuation) (sym (eqb-true b 0x20 t)) ∙ e)) (λ t. t) (either (eqb b 0x20))
+
+pub punctuation-inside : (section : List ℕ) (i : ℕ) → any (eqb (getD section i 0)) punctuation ≡ true → i < length section
+unfolding punctuation
+punctuation-inside section i e = ⊎-elim (λ t. ltb-true i (length section) t) (λ t. clash refl (ap (λ (x : ℕ). any (eqb x) punctuation) (sym (List·getD-eq-default section 0 (ltb-false i (length section) t))) ∙ e)) (either (ltb i (length section)))
+
+module _ (pieces : List (List ℕ)) (raw virtual : Bool) (section : List ℕ) (i : ℕ) (pos : 0 < i) (is-one : any (eqb (getD section i 0)) punctuation ≡ true) where
+  first-shown : shown raw (drop i section) ≡ getD section i 0 ∷ shown raw (drop (suc i) section)
+  first-shown =
+      ap (shown raw) (drop-cons section i 0 (punctuation-inside section i is-one))
+      ∙ ap (λ (b : Bool). cond (raw && b) mark (getD section i 0 ∷ []) ++ shown raw (drop (suc i) section)) (not-space (getD section i 0) is-one)
+      ∙ ap (λ (b : Bool). cond b mark (getD section i 0 ∷ []) ++ shown raw (drop (suc i) section)) (and-false raw)
+
+  last-shown : (f : ShownLast raw (getD section (i - 1) 0)) → prefix virtual ++ shown raw (take i section) ≡ (prefix virtual ++ (shown raw (take (i - 1) section) ++ f .front)) ++ (byteBefore raw section i ∷ [])
+  unfolding byteBefore
+  last-shown f =
+      let next : i ≡ suc (i - 1) = omega arith in
+      let x = getD section (i - 1) 0 in
+      let β = cond (raw && eqb x 0x20) 0x81 x in
+      ap (λ (n : ℕ). prefix virtual ++ shown raw (take n section)) next
+      ∙ ap (λ (l : List ℕ). prefix virtual ++ shown raw l) (take-suc section (i - 1) 0 (omega (arith, punctuation-inside section i is-one)))
+      ∙ ap (λ (l : List ℕ). prefix virtual ++ l) (shown-append raw (take (i - 1) section) (x ∷ []))
+      ∙ ap (λ (l : List ℕ). prefix virtual ++ (shown raw (take (i - 1) section) ++ l)) (append-nil (shownByte raw x) ∙ f .whole)
+      ∙ ap (λ (l : List ℕ). prefix virtual ++ l) (sym (append-assoc (shown raw (take (i - 1) section)) (f .front) (β ∷ [])))
+      ∙ sym (append-assoc (prefix virtual) (shown raw (take (i - 1) section) ++ f .front) (β ∷ []))
+
+  pub punctuation-uncrossed : holdsPair pieces (byteBefore raw section i) (getD section i 0) ≡ false → NoPieceOver pieces (prefix virtual ++ shown raw (take i section)) (shown raw (drop i section))
+  punctuation-uncrossed none front p [] back p-some q-some before after id is = omega arith
+  punctuation-uncrossed none front p (y ∷ q) back p-some q-some before after id is =
+      let s = snoc p p-some in
+      let f = shown-last raw (getD section (i - 1) 0) in
+      let last : s .last ≡ byteBefore raw section i =
+      sym (lastOr-append 0 (s .last) (front ++ s .front))
+      ∙ ap (lastOr 0) (append-assoc front (s .front) (s .last ∷ []) ∙ ap (λ (l : List ℕ). front ++ l) (sym (s .whole)) ∙ sym before ∙ last-shown f)
+      ∙ lastOr-append 0 (byteBefore raw section i) (prefix virtual ++ (shown raw (take (i - 1) section) ++ f .front)) in
+      let first : y ≡ getD section i 0 = ap (λ (l : List ℕ). getD l 0 0) (sym after ∙ first-shown) in
+      clash none
+      (piece-holds pieces id (byteBefore raw section i) (getD section i 0) (s .front) q
+      (is
+      ∙ ap (λ (l : List ℕ). l ++ y ∷ q) (s .whole)
+      ∙ append-assoc (s .front) (s .last ∷ []) (y ∷ q)
+      ∙ ap₂ {C = List ℕ} (λ (a b : ℕ). s .front ++ a ∷ b ∷ q) last first))
+
+-- ---- where a unit starts
+
+any-has : (b : ℕ) (test : ℕ → Bool) (bs : List ℕ) → any (eqb b) bs ≡ true → all test bs ≡ true → test b ≡ true
+any-has b test [] e h = clash refl e
+any-has b test (c ∷ bs) e h = go (any-has b test bs) (eqb b c) refl e
+  where
+    go : (any (eqb b) bs ≡ true → all test bs ≡ true → test b ≡ true) → (t : Bool) → eqb b c ≡ t → (t || any (eqb b) bs) ≡ true → test b ≡ true
+    go rest true q e = ap test (eqb-true b c q) ∙ and-left (test c) (all test bs) h
+    go rest false q e = rest e (and-right (test c) (all test bs) h)
+
+punctuation-clear : (section : List ℕ) (i : ℕ) → any (eqb (getD section i 0)) punctuation ≡ true → startsInTail (drop i section) ≡ false
+unfolding punctuation
+punctuation-clear section i e =
+    let b = getD section i 0 in
+    ap startsInTail (drop-cons section i 0 (punctuation-inside section i e))
+    ∙ ap (λ (t : Bool). t && true) (not-true (within tail b) (any-has b (λ (c : ℕ). not (within tail c)) punctuation e refl))
+
+mark-starts-clear : (raw : Bool) (t : List ℕ) → startsWithMark raw t ≡ true → startsInTail t ≡ false
+unfolding startsWithMark markWidth mark space
+mark-starts-clear raw t e = go (startsWith mark t) refl e
+  where
+    one : (raw : Bool) (t : List ℕ) (b : Bool) → (raw && startsWith space t) ≡ b → ltb 0 (cond b 1 0) ≡ true → startsInTail t ≡ false
+    one raw t false p e = clash refl e
+    one false t true p e = clash refl p
+    one true t true p e = ap startsInTail (starts-rest space t p)
+
+    go : (b : Bool) → startsWith mark t ≡ b → ltb 0 (cond b 3 (cond (raw && startsWith space t) 1 0)) ≡ true → startsInTail t ≡ false
+    go true p e = ap startsInTail (starts-rest mark t p)
+    go false p e = one raw t (raw && startsWith space t) refl e
+
+mark-inside : (raw : Bool) (section : List ℕ) (i : ℕ) → startsWithMark raw (drop i section) ≡ true → i < length section
+unfolding startsWithMark markWidth mark space
+mark-inside raw section i e = ⊎-elim (λ t. ltb-true i (length section) t) (λ t. nothing raw (ap (startsWithMark raw) (sym (drop-of-length-le section (ltb-false i (length section) t))) ∙ e)) (either (ltb i (length section)))
+  where
+    nothing : (raw : Bool) {A : Type 0} → startsWithMark raw [] ≡ true → A
+    nothing true e = clash refl e
+    nothing false e = clash refl e
+
+or-cases : (a b : Bool) → (a || b) ≡ true → (a ≡ true) ⊎ (b ≡ true)
+or-cases true b e = inl refl
+or-cases false b e = inr e
+
+-- A place at which a unit starts: punctuation that no piece holds after the byte before it, or a mark that the kind cuts at.
+pub record PunctuationAt (holds : ℕ → ℕ → Bool) (raw : Bool) (section : List ℕ) (i : ℕ) : Type 0 where
+  pub is-one : any (eqb (getD section i 0)) punctuation ≡ true
+  pub unheld : holds (byteBefore raw section i) (getD section i 0) ≡ false
+
+pub record CutAt (kind : WordSplit) (noted : List Crossing) (holds : ℕ → ℕ → Bool) (raw : Bool) (section : List ℕ) (i : ℕ) : Type 0 where
+  pub behind : 0 < i
+  pub either : (markCuts kind noted raw section i ≡ true) ⊎ PunctuationAt holds raw section i
+
+pub cut-at : (kind : WordSplit) (noted : List Crossing) (holds : ℕ → ℕ → Bool) (raw : Bool) (section : List ℕ) (i : ℕ) → cutBy kind noted holds raw section i ≡ true → CutAt kind noted holds raw section i
+unfolding cutBy punctuationCuts
+cut-at kind noted holds raw section i e =
+    let marks = markCuts kind noted raw section i in
+    let points = punctuationCuts kind holds raw section i in
+    let b = any (eqb (getD section i 0)) punctuation in
+    let h = holds (byteBefore raw section i) (getD section i 0) in
+    record {
+      behind = ltb-true 0 i (and-left (ltb 0 i) (marks || points) e);
+      either =
+          ⊎-elim (λ m. inl m)
+          (λ (p : points ≡ true). inr (record { is-one = and-right (not (isNone kind)) b (and-left (not (isNone kind) && b) (not h) p); unheld = not-true h (and-right (not (isNone kind) && b) (not h) p) }))
+          (or-cases marks points (and-right (ltb 0 i) (marks || points) e));
+    }
+
+mark-is : (kind : WordSplit) (noted : List Crossing) (raw : Bool) (section : List ℕ) (i : ℕ) → markCuts kind noted raw section i ≡ true → startsWithMark raw (drop i section) ≡ true
+unfolding markCuts
+mark-is SpaceRuns noted raw section i e =
+    let a = startsWithMark raw (drop i section) in
+    let b = not (endsWithMark raw (take i section)) in
+    and-left a b (and-left (a && b) (not (spanned noted raw section i)) e)
+mark-is EveryMark noted raw section i e = e
+mark-is None noted raw section i e = clash refl e
+
+-- Units start between characters.
+pub cut-clear : (m : Model) (raw : Bool) (section : List ℕ) (i : ℕ) → cut m raw section i ≡ true → startsInTail (drop i section) ≡ false
+unfolding cut
+cut-clear m raw section i e =
+    ⊎-elim (λ m. mark-starts-clear raw (drop i section) (mark-is _ _ raw section i m)) (λ p. punctuation-clear section i (p .is-one))
+    (cut-at (kindOf m) (crossings (piecesOf m)) (holdsPair (piecesOf m)) raw section i e .either)
+
+-- A section whose units no piece reaches across: of kind SpaceRuns, or of kind EveryMark with no mark behind its first byte.
+abbrev pub Closed : Model → Bool → List ℕ → Type 0
+Closed m raw section = (kindOf m ≡ SpaceRuns) ⊎ ((kindOf m ≡ EveryMark) × ((p : ℕ) → 0 < p → startsWithMark raw (drop p section) ≡ false))
+
+untangled : (m : Model) → kindOf m ≡ SpaceRuns → any isTangled (crossings (piecesOf m)) ≡ false
+unfolding kindOf wordSplit
+untangled m e = go (splits (m .metaspace)) (any isTangled (crossings (piecesOf m))) (ltb 32 (length (crossings (piecesOf m)))) e
+  where
+    runs : WordSplit → Bool
+    runs SpaceRuns = true
+    runs EveryMark = false
+    runs None = false
+
+    go : (s t n : Bool) → cond s EveryMark (cond (t || n) None SpaceRuns) ≡ SpaceRuns → t ≡ false
+    go true t n e = clash refl (ap runs e)
+    go false true n e = clash refl (ap runs e)
+    go false false n e = refl
+
+-- Where a unit starts, no piece reaches from before into what follows.
+pub cut-uncrossed : (m : Model) → badPiece (piecesOf m) ≡ false → (raw virtual : Bool) (section : List ℕ) → Closed m raw section → (i : ℕ) → cut m raw section i ≡ true
+    → NoPieceOver (piecesOf m) (prefix virtual ++ shown raw (take i section)) (shown raw (drop i section))
+unfolding cut markCuts
+cut-uncrossed m fine raw virtual section closed i e =
+    let c = cut-at (kindOf m) (crossings (piecesOf m)) (holdsPair (piecesOf m)) raw section i e in
+    ⊎-elim (λ marks. ⊎-elim (runs (c .behind) marks) (λ every. clash (every .1 i (c .behind)) (mark-is (kindOf m) (crossings (piecesOf m)) raw section i marks)) closed)
+    (λ p. punctuation-uncrossed (piecesOf m) raw virtual section i (c .behind) (p .is-one) (p .unheld)) (c .either)
+  where
+    runs : 0 < i → markCuts (kindOf m) (crossings (piecesOf m)) raw section i ≡ true → kindOf m ≡ SpaceRuns → NoPieceOver (piecesOf m) (prefix virtual ++ shown raw (take i section)) (shown raw (drop i section))
+    runs pos marks k =
+        let noted = crossings (piecesOf m) in
+        let a = startsWithMark raw (drop i section) in
+        let b = not (endsWithMark raw (take i section)) in
+        let s = not (spanned noted raw section i) in
+        let all-three : (a && b && s) ≡ true = ap (λ (k : WordSplit). markCuts k noted raw section i) (sym k) ∙ marks in
+        let two : (a && b) ≡ true = and-left (a && b) s all-three in
+        mark-uncrossed (piecesOf m) fine raw virtual section i pos (mark-inside raw section i (and-left a b two)) (untangled m k) (and-left a b two)
+        (not-true (endsWithMark raw (take i section)) (and-right a b two)) (not-true (spanned noted raw section i) (and-right (a && b) s all-three))
