@@ -2,3 +2,4 @@
 pub mod ShownLaws
 pub mod CutLaws
 pub mod UnitLaws
+pub mod GroupLaws

@@ -12,4 +12,5 @@ pub mod Trim
 pub mod Starts
 pub mod Writing
 pub mod Counts
+pub mod Elements
 pub mod Joins
