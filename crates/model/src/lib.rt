@@ -54,7 +54,7 @@ pub enum Metaspace {
     Present { prepend: PrependScheme, split: bool },
 }
 
-// What every call answers: the number of document 01's table, the place that a 9 names, and the three counts.
+// What every call answers: the number (rule 3.1), the place that a 9 names, and the three counts.
 #[repr(C)]
 pub struct Answer {
     pub number: u32,
@@ -81,7 +81,7 @@ pub enum Found {
 // The longest text that a call takes, in bytes or ids.
 pub const TEXT_LIMIT: usize = 1048576;
 
-// Document 01's answer numbers.
+// The answer numbers (rule 3.1).
 pub const WRONG_SIZE: u32 = 1;
 
 pub const OFFSETS_ASTRAY: u32 = 2;

@@ -65,7 +65,7 @@ isTooLong (InA n) = false
 isTooLong (InB n) = false
 isTooLong TooLong = true
 
--- 12, "if the bytes don't fit", and else the result in the buffer.
+-- 12 where the result does not fit, and else the result in the buffer.
 unfoldable pub finished : List ℕ → List ℕ → Outcome
 finished result out = outcome (cond (ltb (lists.length out) (lists.length result)) 12 0) 0 (done (lists.length result) 0 0) result out
 
