@@ -210,7 +210,7 @@ pub fn check(
     if bad_token(second_bytes, second_offsets) {
         return Answer::refused(BAD_TOKEN, 0);
     }
-    if steps_fail(8, step_bytes, steps, step_count) {
+    if steps_fail(BAD_STEP, step_bytes, steps, step_count) {
         return Answer::refused(BAD_STEP, 0);
     }
     Answer::done(0, 0, 0)
