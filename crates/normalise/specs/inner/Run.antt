@@ -13,7 +13,7 @@ use Rattle.normalise.specs.declared.Length.{Length}
 use Rattle.normalise.specs.declared.Length.the-variants as fit
 use Rattle.normalise.specs.declared.Ran.{Ran}
 use Rattle.normalise.specs.declared.Ran.the-variants.{Given, InA, InB, TooLong}
-use Rattle.normalise.specs.Fit.{put}
+use Rattle.normalise.specs.inner.Fit.{put}
 use Rattle.normalise.specs.Steps.{applied}
 use Rattle.normalise.specs.Spaces.{spacesMarked, schemePrepends, markPrepended}
 
