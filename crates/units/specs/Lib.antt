@@ -1,2 +1,4 @@
 pub mod Kinds
 pub mod Units
+pub mod Adjacency
+pub mod inner
