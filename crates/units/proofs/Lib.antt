@@ -1,3 +1,7 @@
 -- Laws on the definitions of this crate, for its proofs and those of the crates above it.
 pub mod BitLaws
 pub mod AdjacencyLaws
+pub mod ShownLaws
+pub mod CutLaws
+pub mod UnitLaws
+pub mod GroupLaws

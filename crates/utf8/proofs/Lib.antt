@@ -13,3 +13,5 @@ pub mod Starts
 pub mod Writing
 pub mod Counts
 pub mod Fronts
+pub mod Elements
+pub mod Joins
