@@ -11,7 +11,7 @@ ghost use lib.ListN.{getD};
 ghost use Rattle.utf8.specs.Lists.{same};
 ghost use Rattle.model.specs.Mark.{mark};
 ghost use Rattle.model.specs.Model.{strings};
-ghost use Rattle.model.specs.Search.{foundId};
+ghost use Rattle.model.specs.inner.Search.{foundId};
 ghost use Rattle.index.specs.inner.Find.{idOf, keyStart, keyEnd, idFrom, rowFrom};
 
 // 4,294,967,295: no id.

@@ -10,7 +10,7 @@ use Rattle.model.specs.declared.Span.{Span}
 use Rattle.model.specs.declared.Step.{Step}
 use Rattle.model.specs.declared.Answer.{Answer}
 use Rattle.model.specs.Model.{Model, TokenList, piece, noId, contents, stepString, spansOf, piecesOf, stepsOf}
-use Rattle.model.specs.Search.{isBefore}
+use Rattle.model.specs.ByteOrder.{isBefore}
 use Rattle.model.specs.Answers.{lowest, done, refused}
 
 -- The strings of all steps.
@@ -115,14 +115,6 @@ pieceMissing pieces lookup = any (λ (bytes : List ℕ). not (isEmpty bytes) && 
 unfoldable pub badLookup : List (List ℕ) → List ℕ → Bool
 badLookup pieces lookup = any (namesNoPiece pieces) lookup || not (lookupAscends pieces lookup) || pieceMissing pieces lookup
 
--- No rule of its own: the part of `pieceMissing` that is about pieces of two bytes or more. That it is false can be told by
--- counting.
-unfoldable pub isLong : List ℕ → Bool
-isLong bytes = ltb 1 (length bytes)
-
-unfoldable pub longMissing : List (List ℕ) → List ℕ → Bool
-longMissing pieces lookup = any (λ (bytes : List ℕ). isLong bytes && not (isListed pieces lookup bytes)) pieces
-
 -- Answer 5: a byte's entry is none, or the id of the piece that is this byte alone (rule 2.5).
 unfoldable pub fallbackFits : List (List ℕ) → ℕ × ℕ → Bool
 fallbackFits pieces entry = eqb (entry .1) noId || ltb (entry .1) (length pieces) && same (piece pieces (entry .1)) (entry .0 ∷ [])
@@ -167,11 +159,6 @@ noText bytes span = not (valid (stepString bytes span))
 
 unfoldable pub badStep : List ℕ → List Step → Bool
 badStep bytes steps = any (noText bytes) (stepSpans steps)
-
--- What the tests 1, 2 and 8 ask of a step's string.
-unfoldable pub spanFails : ℕ → List ℕ → Span → Bool
-spanFails number bytes span =
-    cond (eqb number 1) (spanTooLong span) (cond (eqb number 2) (liesOutside bytes span) (noText bytes span))
 
 -- The tests that all calls share (rule 3.2); size is that of the call's text or ids.
 unfoldable pub modelTests : Model → ℕ → List (ℕ × Bool)

@@ -12,7 +12,8 @@ ghost use Prim.Native.Nat.{_≤_};
 ghost use lib.ListN.{take};
 ghost use Rattle.utf8.specs.Lists.{any};
 ghost use Rattle.model.specs.Model.{spansOf};
-ghost use Rattle.model.specs.Check.{stepSpans, spanFails};
+ghost use Rattle.model.specs.Check.{stepSpans};
+ghost use Rattle.model.specs.inner.Tests.{spanFails};
 
 // WRONG_SIZE: the string is too long. OFFSETS_ASTRAY: it runs past the end of the bytes. Any other: it is no valid UTF-8.
 fn span_fails(number: u32, bytes: &[u8], span: Span) -> bool

@@ -8,7 +8,8 @@ use borrow.Author.Needs.{needs}
 use Rattle.model.specs.declared.Answer.{Answer}
 use Rattle.model.specs.Answers.{refused}
 use Rattle.model.specs.Model.{Model, modelOf, tokenList, contents, piecesOf, stepsOf}
-use Rattle.model.specs.Check.{wrongSizes, wrongListSizes, textTooLong, offsetsAstray, badToken, badStep, spanFails, modelTests, checkOutcome}
+use Rattle.model.specs.Check.{wrongSizes, wrongListSizes, textTooLong, offsetsAstray, badToken, badStep, modelTests, checkOutcome}
+use Rattle.model.specs.inner.Tests.{spanFails}
 use Rattle.model.proofs.Accepted.{sizes-fine, DecidedBy, Undecided, nothing-decided, others-decide, first-decides, refuses, accepts}
 use Rattle.model.proofs.check.Statement.{statement}
 use Rattle.model.proofs.check.Tie as tie

@@ -1,34 +1,16 @@
--- Byte order, and the search by halves that a sorted table allows.
+-- The search by halves that a sorted table allows.
 use Prim.Native.Nat.{ℕ, zero, suc, _+_, _-_, _/_}
 use mathlib.Core.Bool.{Bool, true, false, cond}
-use mathlib.Core.List.{List, [], _∷_}
+use mathlib.Core.List.{List}
 use mathlib.Core.Option.{Option, none, some}
 use lib.Dec.{ltb}
 use lib.ListN.{length, getD}
 use Rattle.model.specs.Model.{Row, piece}
+use Rattle.model.specs.ByteOrder.{orderOr, byteOrder}
 use Rattle.model.specs.declared.Order.{Order}
 use Rattle.model.specs.declared.Order.the-variants.{Less, Equal, Greater}
 use Rattle.model.specs.declared.Found.{Found}
 use Rattle.model.specs.declared.Found.the-variants.{At, Nothing}
-
--- The order of two numbers, where they differ, and else what is given.
-abbrev pub orderOr : ℕ → ℕ → Order → Order
-orderOr x y otherwise = cond (ltb x y) Less (cond (ltb y x) Greater otherwise)
-
--- Byte order: a string stands before its extensions.
-abbrev pub byteOrder : List ℕ → List ℕ → Order
-byteOrder [] [] = Equal
-byteOrder [] (y ∷ ys) = Less
-byteOrder (x ∷ xs) [] = Greater
-byteOrder (x ∷ xs) (y ∷ ys) = orderOr x y (byteOrder xs ys)
-
-abbrev pub isLess : Order → Bool
-isLess Less = true
-isLess Equal = false
-isLess Greater = false
-
-unfoldable pub isBefore : List ℕ → List ℕ → Bool
-isBefore xs ys = isLess (byteOrder xs ys)
 
 -- The order of two pairs: that of their left sides, and where these are equal that of their right sides.
 unfoldable pub pairOrder : ℕ × ℕ → ℕ × ℕ → Order
