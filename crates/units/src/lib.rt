@@ -1,6 +1,8 @@
 // How a model's sections divide into units that are merged one by one.
 
 pub mod adjacency;
+pub mod cut;
+pub mod spans;
 
 // The kind of split.
 pub enum WordSplit {

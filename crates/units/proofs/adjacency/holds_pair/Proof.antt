@@ -1,4 +1,4 @@
--- `units::adjacency::holds_pair` meets its contract.
+-- `units::adjacency::holds_pair` meets its contract: a word past the end is 0.
 use Prim.Native.Nat.{_+_, _*_, _/_, _%_, _≤_}
 use mathlib.Core.Path.{sym}
 use borrow.Author.Needs.{needs}

@@ -1,4 +1,4 @@
--- `units::adjacency::note_pair` meets its contract.
+-- `units::adjacency::note_pair` meets its contract: the word of the pair gets its bit.
 use Prim.Native.Nat.{_%_}
 use native.Mathlib.Omega.{arith}
 use borrow.Author.Needs.{needs}

@@ -1,4 +1,4 @@
--- `units::adjacency::note_pairs` meets its contract.
+-- `units::adjacency::note_pairs` meets its contract. The loop's invariant: noting the pairs from `i` on gives the rows of all.
 use mathlib.Core.Path.{_≡_, refl, sym, ap, _∙_}
 use Prim.Native.Nat.{_+_, _-_, _≤_}
 use borrow.Author.Needs.{needs}

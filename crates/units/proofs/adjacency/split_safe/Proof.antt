@@ -1,4 +1,4 @@
--- `units::adjacency::split_safe` meets its contract.
+-- `units::adjacency::split_safe` meets its contract. The loop's invariant: noting the pairs of the pieces from `id` on gives the rows of all.
 use mathlib.Core.Path.{_≡_, sym, ap, _∙_}
 use mathlib.Core.List.{List}
 use Prim.Native.Nat.{ℕ, _+_, _-_, _≤_}
