@@ -1,0 +1,4 @@
+-- Laws on the definitions of this crate, for its proofs and those of the crates above it.
+pub mod Laying
+pub mod StartLaws
+pub mod UnitLaws
