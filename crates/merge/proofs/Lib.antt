@@ -1,4 +1,7 @@
 -- Laws on the definitions of this crate, for its proofs and those of the crates above it.
+pub mod NextLaws
+pub mod MergedLaws
+pub mod PieceLaws
 pub mod Laying
 pub mod StartLaws
-pub mod UnitLaws
+pub mod WalkLaws

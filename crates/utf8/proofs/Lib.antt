@@ -12,3 +12,4 @@ pub mod Trim
 pub mod Starts
 pub mod Writing
 pub mod Counts
+pub mod Joins

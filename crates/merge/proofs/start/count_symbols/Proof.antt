@@ -6,7 +6,7 @@ use borrow.Author.Needs.{needs}
 use lib.ListN.{length, take, drop, replicate}
 use Rattle.merge.specs.Start.{asMark, unitChars}
 use Rattle.merge.specs.inner.Laid.{ownFound, markedChars}
-use Rattle.merge.proofs.UnitLaws.{Stepped, stepped, unit-at, unit-over, unit-narrow, given, given-one, mark-one, Tallied, tallied-start, tallied-next, tallied-ended}
+use Rattle.merge.proofs.WalkLaws.{Stepped, stepped, unit-at, unit-over, unit-narrow, given, given-one, mark-one, Tallied, tallied-start, tallied-next, tallied-ended}
 use Rattle.merge.proofs.start.count_symbols.Statement.{statement}
 use Rattle.merge.proofs.start.count_symbols.Tie as tie
 

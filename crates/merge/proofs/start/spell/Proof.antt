@@ -4,7 +4,7 @@ use Prim.Native.Nat.{_<_}
 use lib.ListN.{length}
 use borrow.Author.Needs.{needs}
 use Rattle.merge.specs.inner.Laid.{ownFound}
-use Rattle.merge.proofs.UnitLaws.{own-no-room, own-put, own-lacking}
+use Rattle.merge.proofs.WalkLaws.{own-no-room, own-put, own-lacking}
 use Rattle.merge.proofs.start.spell.Statement.{statement}
 use Rattle.merge.proofs.start.spell.Tie as tie
 

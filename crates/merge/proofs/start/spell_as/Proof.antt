@@ -3,7 +3,7 @@ use mathlib.Core.List.{List}
 use Prim.Native.Nat.{ℕ}
 use borrow.Author.Needs.{needs}
 use Rattle.model.specs.Mark.{mark}
-use Rattle.merge.proofs.UnitLaws.{as-plain, as-mark, as-other}
+use Rattle.merge.proofs.WalkLaws.{as-plain, as-mark, as-other}
 use Rattle.merge.proofs.start.spell_as.Statement.{statement}
 use Rattle.merge.proofs.start.spell_as.Tie as tie
 

@@ -1,0 +1,4 @@
+-- Laws on the definitions of this crate, for its proofs and those of the crates above it.
+pub mod ShownLaws
+pub mod CutLaws
+pub mod UnitLaws
