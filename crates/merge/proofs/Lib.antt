@@ -5,3 +5,5 @@ pub mod PieceLaws
 pub mod Laying
 pub mod StartLaws
 pub mod WalkLaws
+pub mod TurnLaws
+pub mod FrontLaws

@@ -131,7 +131,7 @@ fn char_step(text: &[u8]) -> usize
     w
 }
 
-fn lesser(a: usize, b: usize) -> usize
+pub(crate) fn lesser(a: usize, b: usize) -> usize
     ensures { λ r. ⌜ r ≡ min a b ⌝ }
 {
     if a <= b {
