@@ -67,13 +67,22 @@ module _ (m : Model) where
 not-empty : {A : Type 0} (xs : List A) → isEmpty xs ≡ false → 0 < length xs
 not-empty xs e = let h : length xs ≡ 0 → ⊥ = eqb-false (length xs) 0 (sym (empty-by-length xs) ∙ e) in omega arith
 
-pub piece-row : (bytes offsets : List ℕ) → wrongPieceSizes bytes offsets ≡ false → 0 < length offsets
+-- Neither are there no offsets, nor too many.
+few-offsets : (bytes offsets : List ℕ) → wrongPieceSizes bytes offsets ≡ false → (isEmpty offsets || ltb 524288 (length offsets - 1)) ≡ false
 unfolding wrongPieceSizes
-piece-row bytes offsets e =
-    not-empty offsets
-    (or-left (isEmpty offsets) (ltb 524288 (length offsets - 1))
-    (or-left (isEmpty offsets || ltb 524288 (length offsets - 1)) (ltb 8388608 (length bytes))
-    (or-left (isEmpty offsets || ltb 524288 (length offsets - 1) || ltb 8388608 (length bytes)) (stringTooLong offsets) e)))
+few-offsets bytes offsets e =
+    or-left (isEmpty offsets || ltb 524288 (length offsets - 1)) (ltb 8388608 (length bytes))
+    (or-left (isEmpty offsets || ltb 524288 (length offsets - 1) || ltb 8388608 (length bytes)) (stringTooLong offsets) e)
+
+pub piece-row : (bytes offsets : List ℕ) → wrongPieceSizes bytes offsets ≡ false → 0 < length offsets
+piece-row bytes offsets e = not-empty offsets (or-left (isEmpty offsets) (ltb 524288 (length offsets - 1)) (few-offsets bytes offsets e))
+
+piece-limit : (bytes offsets : List ℕ) → wrongPieceSizes bytes offsets ≡ false → length offsets - 1 ≤ 524288
+piece-limit bytes offsets e = ltb-false 524288 (length offsets - 1) (or-right (isEmpty offsets) (ltb 524288 (length offsets - 1)) (few-offsets bytes offsets e))
+
+row-limit : (left right result rank : List ℕ) → wrongRowSizes left right result rank ≡ false → length left ≤ 1048576
+unfolding wrongRowSizes
+row-limit left right result rank e = ltb-false 1048576 (length left) (or-left (ltb 1048576 (length left)) _ e)
 
 -- The columns of merge rows are as long as each other.
 pub record RowColumns (left right result rank : List ℕ) : Type 0 where
@@ -122,6 +131,8 @@ step-count steps count e = ltb-false 16 count (or-left (ltb 16 count) (any spanT
 
 pub record SizesFine (m : Model) : Type 0 where
   pub pieceRow : 0 < length (m .pieceOffsets)
+  pub pieceLimit : length (m .pieceOffsets) - 1 ≤ 524288
+  pub rowLimit : length (m .left) ≤ 1048576
   pub fallbackLong : length (m .fallback) ≡ 256
   pub rows : RowColumns (m .left) (m .right) (m .result) (m .rank)
   pub first : TokenColumns (m .first .offsets) (m .first .ids) (m .first .lstrip) (m .first .rstrip)
@@ -142,6 +153,8 @@ sizes-fine m e =
     let two : (a || b) ≡ false = or-left (a || b) c three in
     record {
       pieceRow = piece-row (m .pieceBytes) (m .pieceOffsets) (or-left a b two);
+      pieceLimit = piece-limit (m .pieceBytes) (m .pieceOffsets) (or-left a b two);
+      rowLimit = row-limit (m .left) (m .right) (m .result) (m .rank) (or-right (a || b) c three);
       fallbackLong = eqb-true (length (m .fallback)) 256 (not-false _ (or-right a b two));
       rows = row-columns (m .left) (m .right) (m .result) (m .rank) (or-right (a || b) c three);
       first = token-columns (m .first .offsets) (m .first .ids) (m .first .lstrip) (m .first .rstrip) (or-right (a || b || c) d four);

@@ -43,6 +43,10 @@ module _ (xs ys : List ℕ) (i : ℕ) where
 
 -- ---- the order of two numbers, or else what is given
 
+-- One number is below another, or it is not.
+pub by-below {ℓ} : {A : Type ℓ} (x y : ℕ) → (x < y → A) → (y ≤ x → A) → A
+by-below x y less not-less = ⊎-elim (λ l. less (ltb-true x y l)) (λ m. not-less (ltb-false x y m)) (either (ltb x y))
+
 -- Of two numbers one is less, or they are equal.
 pub by-numbers {ℓ} : {A : Type ℓ} (x y : ℕ) → (x < y → A) → (y < x → A) → (x ≡ y → A) → A
 by-numbers x y less greater equal =

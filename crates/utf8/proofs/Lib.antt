@@ -13,3 +13,4 @@ pub mod Starts
 pub mod Writing
 pub mod Counts
 pub mod Joins
+pub mod Fronts
