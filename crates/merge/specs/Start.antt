@@ -31,16 +31,26 @@ unfoldable pub ownId : Vocabulary → List ℕ → Option ℕ
 ownId v char = lookupId (v .pieces) (v .lookup) char
 
 -- Rule 9.3: the fallback ids of those bytes that have one.
-unfoldable pub fallbackIds : Vocabulary → List ℕ → List ℕ
-fallbackIds v char = joinMap (λ (b : ℕ). ifAny (fallbackId (v .fallback) b)) char
+unfoldable pub fallbackIds : List ℕ → List ℕ → List ℕ
+fallbackIds fallback char = joinMap (λ (b : ℕ). ifAny (fallbackId fallback b)) char
 
--- The ids that a character starts as.
+-- Some byte has no fallback id.
+unfoldable pub lacksByte : List ℕ → List ℕ → Bool
+lacksByte fallback char = any (λ (b : ℕ). isMissing (fallbackId fallback b)) char
+
+-- The ids that a character starts as; own gives a character's own id.
+unfoldable pub startingIdsBy : (List ℕ → Option ℕ) → List ℕ → List ℕ → List ℕ
+startingIdsBy own fallback char = cond (isMissing (own char)) (fallbackIds fallback char) (ifAny (own char))
+
 unfoldable pub startingIds : Vocabulary → List ℕ → List ℕ
-startingIds v char = cond (isMissing (ownId v char)) (fallbackIds v char) (ifAny (ownId v char))
+startingIds v char = startingIdsBy (ownId v) (v .fallback) char
 
 -- Rule 9.4: the character has no piece, and some byte of it no fallback id.
+unfoldable pub isDroppedBy : (List ℕ → Option ℕ) → List ℕ → List ℕ → Bool
+isDroppedBy own fallback char = isMissing (own char) && lacksByte fallback char
+
 unfoldable pub isDropped : Vocabulary → List ℕ → Bool
-isDropped v char = isMissing (ownId v char) && any (λ (b : ℕ). isMissing (fallbackId (v .fallback) b)) char
+isDropped v char = isDroppedBy (ownId v) (v .fallback) char
 
 -- A space that is read raw is spelled as the mark.
 unfoldable pub asMark : Bool → List ℕ → List ℕ

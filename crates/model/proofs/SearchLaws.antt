@@ -119,6 +119,11 @@ module _ (order : ℕ → Order) where
       let l : lo < hi = ltb-true lo hi (inner .0) in
       sound-on turns lo hi i middle (order middle) refl (omega arith) (omega arith) (sound turns (middle + 1) hi i) (sound turns lo middle i) (inner .1)
 
+  -- A place that a search gives lies before its end.
+  pub found-below : (lo hi i : ℕ) → searched order lo hi ≡ At i → i < hi
+  unfolding searched Sound
+  found-below lo hi i e = sound (hi - lo) lo hi i e .1
+
   module _ (n : ℕ) where
     -- A place that a search gives is one of those searched, and equal.
     pub found-equal : (i : ℕ) → searched order 0 n ≡ At i → (i < n) × (order i ≡ Equal)

@@ -98,7 +98,7 @@ unfolding Chars.charForms Chars.charWidth Chars.chars Chars.isChar Chars.valid C
     Normalise.normalised Normalise.outgrows Normalise.normaliseOutputs Normalise.normaliseNumber Normalise.normaliseOutcome
     Kinds.crossesAt Kinds.crossingAt Kinds.crossingsOf Kinds.crossings Kinds.holdsMark Kinds.isTangled Kinds.splits Kinds.wordSplit Kinds.kindOf Kinds.isPrependMark Kinds.isSpaceReplace Kinds.isPresent Kinds.prependOf Kinds.rawPathOf Kinds.isNone Kinds.rawPath Kinds.hasRawPath
     Units.spanned Units.markCuts Units.punctuation Units.holdsPair Units.byteBefore Units.punctuationCuts Units.cutBy Units.cut Units.units
-    Start.vocabularyOf Start.ownId Start.fallbackIds Start.startingIds Start.isDropped Start.asMark Start.unitChars Start.withVirtualMark
+    Start.vocabularyOf Start.ownId Start.fallbackIds Start.lacksByte Start.startingIdsBy Start.startingIds Start.isDroppedBy Start.isDropped Start.asMark Start.unitChars Start.withVirtualMark
     Merge.candidates Merge.nextMerge Merge.mergedAt Merge.merged
     Matches.end Matches.longestAt Matches.matches
     Sections.stopBefore Sections.whiteLength Sections.startAfter Sections.bytesOf Sections.sectionOf Sections.isSwallowed Sections.sections
