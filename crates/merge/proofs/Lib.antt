@@ -2,3 +2,8 @@
 pub mod NextLaws
 pub mod MergedLaws
 pub mod PieceLaws
+pub mod Laying
+pub mod StartLaws
+pub mod WalkLaws
+pub mod TurnLaws
+pub mod FrontLaws

@@ -23,7 +23,7 @@ use Rattle.model.proofs.RowLaws.{length-rows, row-is}
 use Rattle.model.proofs.Accepted.{Accepted}
 use Rattle.model.proofs.ReachLaws.{NoPieceOver, StringsApart}
 use Rattle.merge.specs.Merge.{Candidate, nextMerge, mergedAt, merged}
-use Rattle.merge.specs.Start.{Vocabulary, vocabularyOf, ifAny, isMissing, ownId, fallbackIds, startingIds, isDropped}
+use Rattle.merge.specs.Start.{Vocabulary, vocabularyOf, ifAny, isMissing, ownId, fallbackIds, startingIds, isDropped, lacksByte, startingIdsBy, isDroppedBy}
 use Rattle.merge.proofs.NextLaws.{NoRow, next-found, merged-is}
 use Rattle.merge.proofs.MergedLaws.{Apart, by-merges, merged-none, merged-step, merged-apart}
 
@@ -226,7 +226,7 @@ module _ (m : Model) (ok : Accepted m) where
 
   -- The starting ids of a character that is not dropped spell it.
   pub start-spells : (char : List ℕ) → 0 < length char → isDropped (vocabularyOf m) char ≡ false → Spells char (startingIds (vocabularyOf m) char)
-  unfolding isDropped startingIds fallbackIds vocabularyOf
+  unfolding isDropped isDroppedBy lacksByte startingIds startingIdsBy fallbackIds vocabularyOf
   start-spells char pos e = go (ownId (vocabularyOf m) char) refl e
     where
       go : (o : Option ℕ) → ownId (vocabularyOf m) char ≡ o → (isMissing o && any (λ (b : ℕ). isMissing (fallbackId (m .fallback) b)) char) ≡ false

@@ -11,7 +11,7 @@ use borrow.Author.Tests.{lt-ltb, le-ltb}
 use Rattle.model.specs.Answers.{zeros, filled, Outcome, outcome, done, refused}
 use Rattle.normalise.specs.declared.Ran.{Ran}
 use Rattle.normalise.specs.declared.Ran.the-variants.{Given, InA, InB, TooLong}
-use Rattle.normalise.specs.Run.{standing, isTooLong, finished, ended}
+use Rattle.normalise.specs.inner.Run.{standing, isTooLong, finished, ended}
 
 zeros-next : (n m : ℕ) → n + 1 ≡ m → zeros n ++ (0 ∷ []) ≡ zeros m
 zeros-next n m e = replicate-append-replicate n 1 0 ∙ ap zeros e
