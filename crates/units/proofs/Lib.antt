@@ -8,3 +8,5 @@ pub mod ShownLaws
 pub mod CutLaws
 pub mod UnitLaws
 pub mod GroupLaws
+pub mod CrossingLaws
+pub mod NotingLaws
