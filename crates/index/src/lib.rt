@@ -36,7 +36,7 @@ pub fn is_mark(key: &[u8]) -> bool
 }
 
 // The first byte of `key`, 0 where it has none.
-fn first_byte(key: &[u8]) -> usize
+pub fn first_byte(key: &[u8]) -> usize
     ensures { λ r. ⌜ (r ≡ getD (now (key .entry)) 0 0) × (r < 256) ⌝ }
 {
     if key.len() == 0 {

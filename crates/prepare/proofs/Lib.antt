@@ -1,0 +1,3 @@
+-- Laws on what is derived of a model, and how it is laid out.
+pub mod WalkLaws
+pub mod LayoutLaws
