@@ -15,6 +15,7 @@ ghost use Rattle.model.specs.Check.{checkOutcome};
 pub mod compare;
 pub mod fallback;
 mod lookup;
+pub mod mark;
 mod offsets;
 mod rows;
 pub mod search;

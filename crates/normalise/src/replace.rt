@@ -3,7 +3,7 @@ use crate::Length;
 use crate::copy::copy_at;
 use crate::fit::lesser;
 use crate::prefix::char_step;
-use crate::prefix::starts_with;
+use utf8::edges::starts_with;
 ghost use mathlib.Core.Path.{_≡_};
 ghost use mathlib.Core.List.{[], _++_};
 ghost use Prim.Native.Nat.{_≤_, _<_};

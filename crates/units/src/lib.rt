@@ -1,5 +1,9 @@
 // How a model's sections divide into units that are merged one by one.
 
+pub mod adjacency;
+pub mod cut;
+pub mod spans;
+
 // The kind of split.
 pub enum WordSplit {
     // A unit starts at a mark that follows no mark, unless a crossing piece spans it.

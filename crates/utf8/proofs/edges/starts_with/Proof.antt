@@ -1,12 +1,12 @@
--- `normalise::prefix::starts_with` meets its contract. The loop's invariant: what follows from `i` on decides.
+-- `utf8::edges::starts_with` meets its contract. The loop's invariant: what follows from `i` on decides.
 use mathlib.Core.Path.{_≡_, refl, sym, _∙_}
 use Prim.Native.Nat.{_-_, _≤_}
 use borrow.Author.Needs.{needs}
 use lib.ListN.{length, drop}
 use Rattle.utf8.specs.Lists.{startsWith}
 use Rattle.utf8.proofs.Starts.{starts-next, starts-apart, starts-short, starts-ended}
-use Rattle.normalise.proofs.prefix.starts_with.Statement.{statement}
-use Rattle.normalise.proofs.prefix.starts_with.Tie as tie
+use Rattle.utf8.proofs.edges.starts_with.Statement.{statement}
+use Rattle.utf8.proofs.edges.starts_with.Tie as tie
 
 abbrev Inv-loop : tie.InvT-loop
 Inv-loop text pattern i₀ i = (i ≤ length pattern) × (i ≤ length text) × (startsWith pattern text ≡ startsWith (drop i pattern) (drop i text))
