@@ -7,3 +7,4 @@ pub mod SearchLaws
 pub mod StringLaws
 pub mod Accepted
 pub mod AnswerLaws
+pub mod ClearLaws

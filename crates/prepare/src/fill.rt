@@ -2,6 +2,7 @@
 use crate::walk::below_from;
 use crate::walk::first_below_from;
 use model::Found;
+use model::mark::MARK;
 use model::search::find_piece;
 use model::tables::number_at;
 use model::tables::string_count;
@@ -75,7 +76,7 @@ fn mark_id(piece_bytes: &[u8], piece_offsets: &[u32], lookup: &[u32]) -> u32
     requires { ⌜ lookupAscends (strings (now «piece_bytes») (now «piece_offsets»)) (now lookup) ≡ true ⌝ }
     ensures { λ r. ⌜ r ≡ markId (strings (now («piece_bytes» .entry)) (now («piece_offsets» .entry))) (now (lookup .entry)) ⌝ }
 {
-    match find_piece(piece_bytes, piece_offsets, lookup, &[0xE2, 0x96, 0x81]) {
+    match find_piece(piece_bytes, piece_offsets, lookup, &MARK) {
         Found::At(place) => number_at(lookup, place),
         Found::Nothing => 4294967295,
     }

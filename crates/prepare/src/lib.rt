@@ -1,6 +1,8 @@
 // What is derived of a model once: the byte-adjacency rows, and the index.
 
 mod fill;
+pub mod numbers;
+mod rows;
 mod walk;
 
 // The lengths of the two rows.
