@@ -4,3 +4,5 @@ pub mod AdjacencyLaws
 pub mod SpanLaws
 pub mod CutLaws
 pub mod NextLaws
+pub mod CrossingLaws
+pub mod NotingLaws
