@@ -1,19 +1,18 @@
 -- Units never change the ids: the statements of specs/UnitsKeepIds.antt. Assumes nothing.
-use Prim.Native.Nat.{ℕ, _+_}
+use Prim.Native.Nat.{ℕ}
 use native.Mathlib.Omega.{arith}
 use mathlib.Core.Path.{_≡_, refl, sym, ap, ap₂, _∙_, subst}
-use mathlib.Core.Bool.{Bool, true, false, cond, _&&_, _||_}
+use mathlib.Core.Bool.{Bool, true, false, cond, _||_}
 use mathlib.Core.List.{List, [], _∷_, _++_, map, append-nil, map-append}
 use lib.ListN.{length}
 use lib.Seq.{slice}
-use Rattle.utf8.specs.Lists.{all, any, count, filter, join, joinMap, sum, below, between}
+use Rattle.utf8.specs.Lists.{any, filter, join, joinMap, sum, below, between}
 use Rattle.utf8.specs.Chars.{chars}
 use Rattle.utf8.proofs.Tests.{clash, or-left, or-right}
 use Rattle.utf8.proofs.Lists.{join-append}
 use Rattle.utf8.proofs.Places.{any-append}
 use Rattle.utf8.proofs.Elements.{count-none}
 use Rattle.model.specs.Model.{Model, piece, piecesOf, rowOf, mergeRows}
-use Rattle.model.specs.Check.{checkNumber}
 use Rattle.model.specs.Mark.{mark}
 use Rattle.model.proofs.Accepted.{Accepted, accepted}
 use Rattle.model.proofs.ReachLaws.{StringsApart}
@@ -21,17 +20,16 @@ use Rattle.units.specs.Kinds.{kindOf}
 use Rattle.units.specs.Units.{cut, units}
 use Rattle.units.specs.declared.WordSplit.{WordSplit}
 use Rattle.units.specs.declared.WordSplit.the-variants.{SpaceRuns, EveryMark, None}
-use Rattle.units.proofs.ShownLaws.{shown}
-use Rattle.units.proofs.UnitLaws.{spelledUnits, unspelled, units-chars, units-apart}
-use Rattle.units.proofs.GroupLaws.{Groups, end, group, Grouped, every-mark-groups}
+use Rattle.units.proofs.UnitLaws.{spelledUnits, units-chars, units-apart}
+use Rattle.units.proofs.GroupLaws.{Groups, end, group, every-mark-groups}
 use Rattle.merge.specs.Start.{vocabularyOf, startingIds, isDropped, unitChars, withVirtualMark}
 use Rattle.merge.specs.Merge.{merged}
-use Rattle.merge.proofs.PieceLaws.{spelling, chars-merge, chars-spell}
+use Rattle.merge.proofs.PieceLaws.{chars-merge, chars-spell}
 use Rattle.sections.specs.Sections.{Item, token, plain}
 use Rattle.encode.specs.Parts.{Stretch, parts}
 use Rattle.encode.specs.Encode.{stretchUnits, unitIds, idsOf, encodedIds, dropsOf, drops}
-use Rattle.theorems.specs.UnitsKeepIds.{allChars, unsplitIds, markSections, sectionsOf, Run, Ended, unitStarts, shownBytes, UnitsKeepIds, partIds, EncodedUnsplit}
-use Rattle.theorems.proofs.SpelledLaws.{AllSome, strings-of, chars-of, all-chars-shown, plain-some, chars-all-some}
+use Rattle.theorems.specs.UnitsKeepIds.{allChars, unsplitIds, markSections, sectionsOf, unitStarts, shownBytes, UnitsKeepIds, partIds, EncodedUnsplit}
+use Rattle.theorems.proofs.SpelledLaws.{strings-of, chars-of, all-chars-shown, chars-all-some}
 use Rattle.theorems.proofs.RunLaws.{run-ended}
 
 -- The ids of units that are given as their characters, each merged by itself.

@@ -1,13 +1,13 @@
 -- The characters of units: what they spell, and what they are joined. Assumes nothing.
-use Prim.Native.Nat.{ℕ, suc, _≤_, _<_, max}
+use Prim.Native.Nat.{ℕ, _<_, max}
 use native.Mathlib.Omega.{arith}
 use mathlib.Core.Path.{_≡_, refl, sym, ap, ap₂, _∙_}
 use mathlib.Core.Bool.{Bool, true, false, not, cond, _&&_, and-true, and-false}
 use mathlib.Core.Logic.{⊎-elim}
-use mathlib.Core.List.{List, [], _∷_, _++_, map, append-assoc, append-nil, map-append}
-use borrow.Author.Tests.{ltb-true, ltb-false, eqb-true, ne-eqb}
+use mathlib.Core.List.{List, [], _∷_, _++_, map, append-nil, map-append}
+use borrow.Author.Tests.{ltb-true, ltb-false, ne-eqb}
 use lib.Dec.{eqb, ltb}
-use lib.ListN.{length, take, drop, length-take, length-drop, take-append-drop}
+use lib.ListN.{length, take, drop, length-drop, take-append-drop}
 use Rattle.utf8.specs.Lists.{isEmpty, all, join, joinMap, same}
 use Rattle.utf8.specs.Chars.{charWidth, chars}
 use Rattle.utf8.proofs.Tests.{either, clash, and-left, and-right, and-both}

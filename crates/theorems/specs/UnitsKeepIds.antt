@@ -1,4 +1,4 @@
--- Units never change the ids. Proved in proofs/SameIds.antt, of every model and every stretch of bytes.
+-- Units never change the ids: what is promised, and the words it is said in. Proved in proofs/RunLaws.antt and proofs/SameIds.antt.
 use Prim.Native.Nat.{ℕ, suc}
 use mathlib.Core.Path.{_≡_}
 use mathlib.Core.Bool.{Bool, false, cond, _&&_}
@@ -74,8 +74,7 @@ UnitsKeepIds =
     → (units : List (List ℕ)) → Run m (unitStarts m s) units → Ended m units
     → (join units ≡ joinMap (unsplitIds m) (sectionsOf (kindOf m) s)) × (joinMap (piece (piecesOf m)) (join units) ≡ shownBytes s)
 
--- Every run ends: none goes on for ever, and each can be carried on to its end. Merging one unit whole is a run, and so is one after
--- the other in any order.
+-- No run goes on for ever, each can be carried on to its end, and merging a unit whole, and so unit after unit in any order, is a run.
 abbrev pub RunsEnd : Type 0
 RunsEnd =
     (m : Model) → ((at : ℕ → List (List ℕ)) → ((n : ℕ) → Turn m (at n) (at (suc n))) → ⊥)
