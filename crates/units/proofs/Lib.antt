@@ -6,3 +6,5 @@ pub mod CutLaws
 pub mod NextLaws
 pub mod CrossingLaws
 pub mod NotingLaws
+pub mod RawLaws
+pub mod DerivedLaws
