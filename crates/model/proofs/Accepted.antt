@@ -5,9 +5,9 @@ use mathlib.Core.List.{List, [], _∷_}
 use Prim.Native.Nat.{ℕ, _-_, _≤_, _<_}
 use native.Mathlib.Nat.{suc-ne-zero}
 use native.Mathlib.Omega.{arith}
-use borrow.Author.Tests.{ltb-false, eqb-true, eqb-false, not-false}
+use borrow.Author.Tests.{ltb-false, eqb-true, eqb-false, ne-eqb, not-false}
 use lib.Dec.{ltb, eqb}
-use lib.ListN.{length}
+use lib.ListN.{length, drop}
 use Rattle.utf8.specs.Lists.{isEmpty, all, any, numbered}
 use Rattle.utf8.proofs.Tests.{or-left, or-right, and-left, and-right}
 use Rattle.utf8.proofs.Places.{empty-by-length}
@@ -18,62 +18,55 @@ use Rattle.model.specs.Check.{stringTooLong, wrongPieceSizes, wrongRowSi
 
 -- ---- the answer, by the first test that applies
 
+-- The tests that decide the check's number.
+pub record DecidedBy (tests : List (ℕ × Bool)) (m : Model) : Type 0 where
+  pub number : checkNumber m ≡ lowest tests
+
+-- The tests behind the first k decide.
+abbrev pub Undecided : ℕ → Model → Type 0
+Undecided k m = DecidedBy (drop k (modelTests m 0)) m
+
+module _ {k : ℕ} {b : Bool} {tests : List (ℕ × Bool)} {m : Model} (decided : DecidedBy ((k, b) ∷ tests) m) where
+  pub others-decide : b ≡ false → DecidedBy tests m
+  others-decide f = record { number = decided .number ∙ rw f }
+
+  pub first-decides : b ≡ true → checkNumber m ≡ k
+  first-decides t = decided .number ∙ rw t
+
 module _ (m : Model) where
-  pub refuses-1 : wrongSizes m ≡ true → checkOutcome m ≡ refused 1 0
-  unfolding checkOutcome checkNumber modelTests
-  refuses-1 t = rw t
+  pub nothing-decided : Undecided 0 m
+  unfolding checkNumber
+  nothing-decided = record { number = refl }
 
-  module _ (f1 : wrongSizes m ≡ false) where
-    pub refuses-2 : offsetsAstray m ≡ true → checkOutcome m ≡ refused 2 0
-    unfolding checkOutcome checkNumber modelTests textTooLong
-    refuses-2 t = rw (f1, t)
+  pub refuses : (number : ℕ) → 0 < number → checkNumber m ≡ number → checkOutcome m ≡ refused number 0
+  unfolding checkOutcome
+  refuses number h e = rw (e, ne-eqb number 0 (λ z. omega arith))
 
-    module _ (f2 : offsetsAstray m ≡ false) where
-      pub refuses-3 : badPiece (piecesOf m) ≡ true → checkOutcome m ≡ refused 3 0
-      unfolding checkOutcome checkNumber modelTests textTooLong
-      refuses-3 t = rw (f1, f2, t)
-
-      module _ (f3 : badPiece (piecesOf m) ≡ false) where
-        pub refuses-4 : badLookup (piecesOf m) (m .lookup) ≡ true → checkOutcome m ≡ refused 4 0
-        unfolding checkOutcome checkNumber modelTests textTooLong
-        refuses-4 t = rw (f1, f2, f3, t)
-
-        module _ (f4 : badLookup (piecesOf m) (m .lookup) ≡ false) where
-          pub refuses-5 : badFallback (piecesOf m) (m .fallback) ≡ true → checkOutcome m ≡ refused 5 0
-          unfolding checkOutcome checkNumber modelTests textTooLong
-          refuses-5 t = rw (f1, f2, f3, f4, t)
-
-          module _ (f5 : badFallback (piecesOf m) (m .fallback) ≡ false) where
-            pub refuses-6 : badRow (piecesOf m) (m .left) (m .right) (m .result) ≡ true → checkOutcome m ≡ refused 6 0
-            unfolding checkOutcome checkNumber modelTests textTooLong
-            refuses-6 t = rw (f1, f2, f3, f4, f5, t)
-
-            module _ (f6 : badRow (piecesOf m) (m .left) (m .right) (m .result) ≡ false) where
-              pub refuses-7 : (badToken (contents (m .first)) || badToken (contents (m .second))) ≡ true → checkOutcome m ≡ refused 7 0
-              unfolding checkOutcome checkNumber modelTests textTooLong
-              refuses-7 t = rw (f1, f2, f3, f4, f5, f6, t)
-
-              module _ (f7 : (badToken (contents (m .first)) || badToken (contents (m .second))) ≡ false) where
-                pub refuses-8 : badStep (m .stepBytes) (stepsOf m) ≡ true → checkOutcome m ≡ refused 8 0
-                unfolding checkOutcome checkNumber modelTests textTooLong
-                refuses-8 t = rw (f1, f2, f3, f4, f5, f6, f7, t)
-
-                pub accepts : badStep (m .stepBytes) (stepsOf m) ≡ false → checkOutcome m ≡ done 0 0 0
-                unfolding checkOutcome checkNumber modelTests textTooLong
-                accepts f8 = rw (f1, f2, f3, f4, f5, f6, f7, f8)
+  pub accepts : checkNumber m ≡ 0 → checkOutcome m ≡ done 0 0 0
+  unfolding checkOutcome
+  accepts e = rw e
 
 -- ---- what fine sizes say of each table
 
 not-empty : {A : Type 0} (xs : List A) → isEmpty xs ≡ false → 0 < length xs
 not-empty xs e = let h : length xs ≡ 0 → ⊥ = eqb-false (length xs) 0 (sym (empty-by-length xs) ∙ e) in omega arith
 
-pub piece-row : (bytes offsets : List ℕ) → wrongPieceSizes bytes offsets ≡ false → 0 < length offsets
+-- Neither are there no offsets, nor too many.
+few-offsets : (bytes offsets : List ℕ) → wrongPieceSizes bytes offsets ≡ false → (isEmpty offsets || ltb 524288 (length offsets - 1)) ≡ false
 unfolding wrongPieceSizes
-piece-row bytes offsets e =
-    not-empty offsets
-    (or-left (isEmpty offsets) (ltb 524288 (length offsets - 1))
-    (or-left (isEmpty offsets || ltb 524288 (length offsets - 1)) (ltb 8388608 (length bytes))
-    (or-left (isEmpty offsets || ltb 524288 (length offsets - 1) || ltb 8388608 (length bytes)) (stringTooLong offsets) e)))
+few-offsets bytes offsets e =
+    or-left (isEmpty offsets || ltb 524288 (length offsets - 1)) (ltb 8388608 (length bytes))
+    (or-left (isEmpty offsets || ltb 524288 (length offsets - 1) || ltb 8388608 (length bytes)) (stringTooLong offsets) e)
+
+pub piece-row : (bytes offsets : List ℕ) → wrongPieceSizes bytes offsets ≡ false → 0 < length offsets
+piece-row bytes offsets e = not-empty offsets (or-left (isEmpty offsets) (ltb 524288 (length offsets - 1)) (few-offsets bytes offsets e))
+
+piece-limit : (bytes offsets : List ℕ) → wrongPieceSizes bytes offsets ≡ false → length offsets - 1 ≤ 524288
+piece-limit bytes offsets e = ltb-false 524288 (length offsets - 1) (or-right (isEmpty offsets) (ltb 524288 (length offsets - 1)) (few-offsets bytes offsets e))
+
+row-limit : (left right result rank : List ℕ) → wrongRowSizes left right result rank ≡ false → length left ≤ 1048576
+unfolding wrongRowSizes
+row-limit left right result rank e = ltb-false 1048576 (length left) (or-left (ltb 1048576 (length left)) _ e)
 
 -- The columns of merge rows are as long as each other.
 pub record RowColumns (left right result rank : List ℕ) : Type 0 where
@@ -122,6 +115,8 @@ step-count steps count e = ltb-false 16 count (or-left (ltb 16 count) (any spanT
 
 pub record SizesFine (m : Model) : Type 0 where
   pub pieceRow : 0 < length (m .pieceOffsets)
+  pub pieceLimit : length (m .pieceOffsets) - 1 ≤ 524288
+  pub rowLimit : length (m .left) ≤ 1048576
   pub fallbackLong : length (m .fallback) ≡ 256
   pub rows : RowColumns (m .left) (m .right) (m .result) (m .rank)
   pub first : TokenColumns (m .first .offsets) (m .first .ids) (m .first .lstrip) (m .first .rstrip)
@@ -142,6 +137,8 @@ sizes-fine m e =
     let two : (a || b) ≡ false = or-left (a || b) c three in
     record {
       pieceRow = piece-row (m .pieceBytes) (m .pieceOffsets) (or-left a b two);
+      pieceLimit = piece-limit (m .pieceBytes) (m .pieceOffsets) (or-left a b two);
+      rowLimit = row-limit (m .left) (m .right) (m .result) (m .rank) (or-right (a || b) c three);
       fallbackLong = eqb-true (length (m .fallback)) 256 (not-false _ (or-right a b two));
       rows = row-columns (m .left) (m .right) (m .result) (m .rank) (or-right (a || b) c three);
       first = token-columns (m .first .offsets) (m .first .ids) (m .first .lstrip) (m .first .rstrip) (or-right (a || b || c) d four);

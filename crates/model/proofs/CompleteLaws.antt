@@ -10,11 +10,12 @@ use lib.ListN.{length, getD}
 use Rattle.utf8.specs.Lists.{isEmpty, any, count, same}
 use Rattle.utf8.proofs.Tests.{clash, or-left, or-right, or-also, and-left, and-right, and-both}
 use Rattle.utf8.proofs.Places.{any-one, any-none}
-use Rattle.utf8.proofs.Counts.{count-most, count-fewer, count-same}
+use Rattle.utf8.proofs.Counts.{count-most, count-fewer, count-same, count-within}
 use Rattle.model.specs.declared.Order.the-variants.{Less}
 use Rattle.model.specs.Model.{piece}
-use Rattle.model.specs.Search.{byteOrder, isBefore}
-use Rattle.model.specs.Check.{namesNoPiece, lookupAscends, isListed, isLong, longMissing}
+use Rattle.model.specs.ByteOrder.{byteOrder, isBefore}
+use Rattle.model.specs.Check.{namesNoPiece, lookupAscends, isListed}
+use Rattle.model.specs.inner.Tests.{isLong, longMissing}
 use Rattle.model.proofs.OrderLaws.{isEqual, same-is-equal, less-is, order-self, order-trans, turned, order-turned}
 use Rattle.model.proofs.CheckLaws.{has-id}
 
@@ -79,6 +80,23 @@ module _ (pieces : List (List ℕ)) where
           (rw (l, first-once x rest e)) in
           rw l (le-trans (suc-le-suc others) fewer)
       go false l others = rw l (le-trans others (count-most (longListed (x ∷ rest)) (longListed rest) (more-listed x rest) pieces))
+
+  -- There are no more entries than pieces that are listed.
+  entry-count : (lookup : List ℕ) → any (namesNoPiece pieces) lookup ≡ false → lookupAscends pieces lookup ≡ true → length lookup ≤ count (isListed pieces lookup) pieces
+  unfolding piece
+  entry-count [] n e = zero-le
+  entry-count (x ∷ rest) n e =
+      let others = entry-count rest (or-right (namesNoPiece pieces x) (any (namesNoPiece pieces) rest) n) (others-ascend x rest e) in
+      let fewer : count (isListed pieces rest) pieces < count (isListed pieces (x ∷ rest)) pieces =
+      count-fewer (isListed pieces (x ∷ rest)) (isListed pieces rest) (listed-more x rest) pieces x []
+      (names-piece x (or-left (namesNoPiece pieces x) (any (namesNoPiece pieces) rest) n))
+      (listed-self x rest)
+      (first-once x rest e) in
+      le-trans (suc-le-suc others) fewer
+
+  -- A lookup list is no longer than the table of pieces.
+  pub lookup-length : (lookup : List ℕ) → any (namesNoPiece pieces) lookup ≡ false → lookupAscends pieces lookup ≡ true → length lookup ≤ length pieces
+  lookup-length lookup n e = le-trans (entry-count lookup n e) (count-within (isListed pieces lookup) pieces)
 
   -- As many entries as there are long pieces leave none of them out.
   pub none-missing : (lookup : List ℕ) → any (namesNoPiece pieces) lookup ≡ false → lookupAscends pieces lookup ≡ true → count isLong pieces ≡ count (λ (id : ℕ). isLong (piece pieces id)) lookup → longMissing pieces lookup ≡ false

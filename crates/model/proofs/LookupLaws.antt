@@ -12,9 +12,10 @@ use Rattle.utf8.proofs.Places.{any-found, any-next, any-ended, all-pair-next, a
 use Rattle.model.specs.declared.Order.the-variants.{Less}
 use Rattle.model.specs.declared.Found.{Found}
 use Rattle.model.specs.Model.{piece, lookupId}
-use Rattle.model.specs.Search.{byteOrder, isBefore, pieceOrder, foundPiece, idAt, isAt}
+use Rattle.model.specs.ByteOrder.{byteOrder, isBefore}
+use Rattle.model.specs.inner.Search.{pieceOrder, foundPiece, idAt, isAt}
 use Rattle.model.specs.Check.{namesNoPiece, lookupAscends, isListed, pieceMissing}
-use Rattle.model.proofs.OrderLaws.{same-is-equal, less-is}
+use Rattle.model.proofs.OrderLaws.{same-is-equal, less-is, keys-ascend}
 use Rattle.model.proofs.SearchLaws.{Falls, entry-found, found-any, keys-fall}
 
 -- An id that names no piece has the empty one, and the other way round.
@@ -69,6 +70,10 @@ module _ (pieces : List (List ℕ)) (lookup : List ℕ) (ascends : lookupAscends
   entry-step : (i : ℕ) → i + 1 < length lookup → byteOrder (piece pieces (getD lookup i 0)) (piece pieces (getD lookup (i + 1) 0)) ≡ Less
   unfolding lookupAscends isBefore
   entry-step i h = less-is (byteOrder (piece pieces (getD lookup i 0)) (piece pieces (getD lookup (i + 1) 0))) (all-pair-holds _ lookup i 0 ascends h)
+
+  -- The piece of an entry stands before those of all later ones.
+  pub entries-rise : (i j : ℕ) → i < j → j < length lookup → byteOrder (piece pieces (getD lookup i 0)) (piece pieces (getD lookup j 0)) ≡ Less
+  entries-rise = keys-ascend (λ i. piece pieces (getD lookup i 0)) (length lookup) entry-step
 
   module _ (bytes : List ℕ) where
     pub pieces-fall : Falls (pieceOrder pieces lookup bytes) (length lookup)

@@ -15,7 +15,8 @@ use Rattle.utf8.specs.Lists.{same}
 use Rattle.utf8.proofs.Tests.{either, clash}
 use Rattle.model.specs.declared.Order.{Order}
 use Rattle.model.specs.declared.Order.the-variants.{Less, Equal, Greater}
-use Rattle.model.specs.Search.{orderOr, byteOrder, isLess, pairOrder}
+use Rattle.model.specs.ByteOrder.{orderOr, byteOrder, isLess}
+use Rattle.model.specs.inner.Search.{pairOrder}
 
 module _ (xs ys : List ℕ) (i : ℕ) where
   -- where neither has ended, the bytes at the place decide, or else what follows
@@ -42,6 +43,10 @@ module _ (xs ys : List ℕ) (i : ℕ) where
   order-ended h k = rw (drop-of-length-le xs h, drop-of-length-le ys k)
 
 -- ---- the order of two numbers, or else what is given
+
+-- One number is below another, or it is not.
+pub by-below {ℓ} : {A : Type ℓ} (x y : ℕ) → (x < y → A) → (y ≤ x → A) → A
+by-below x y less not-less = ⊎-elim (λ l. less (ltb-true x y l)) (λ m. not-less (ltb-false x y m)) (either (ltb x y))
 
 -- Of two numbers one is less, or they are equal.
 pub by-numbers {ℓ} : {A : Type ℓ} (x y : ℕ) → (x < y → A) → (y < x → A) → (x ≡ y → A) → A

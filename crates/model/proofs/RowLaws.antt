@@ -13,9 +13,10 @@ use Rattle.utf8.proofs.Places.{length-zip, getD-zip, getD-inside, length-countF
 use Rattle.model.specs.declared.Order.{Order}
 use Rattle.model.specs.declared.Order.the-variants.{Less, Equal}
 use Rattle.model.specs.Model.{strings, piece, Row, rowsOf, rowOf}
-use Rattle.model.specs.Search.{orderOr, byteOrder, isLess, pairOrder, rowOrder, foundRow, rowFound}
+use Rattle.model.specs.ByteOrder.{orderOr, byteOrder, isLess}
+use Rattle.model.specs.inner.Search.{pairOrder, rowOrder, foundRow, rowFound}
 use Rattle.model.specs.Check.{pairBefore, rowsAscend, allBelow, rowsJoin}
-use Rattle.model.proofs.OrderLaws.{by-numbers, or-less, or-greater, or-else, isEqual, equal-or, less-is, twoOf}
+use Rattle.model.proofs.OrderLaws.{by-below, by-numbers, or-less, or-greater, or-else, isEqual, equal-or, less-is, never, keys-ascend, twoOf}
 use Rattle.model.proofs.SearchLaws.{Falls, entry-found, keys-fall}
 use Rattle.model.proofs.StringLaws.{length-strings}
 
@@ -118,6 +119,14 @@ module _ (left right : List ℕ) (ascends : rowsAscend left right ≡ true) (lev
   unfolding rowsAscend row-key pairOrder
   row-step i h =
       less-is (nextOrder left right i) (sym (before-next left right i h (omega arith)) ∙ all-pair-holds _ (zip left right) i (0, 0) ascends (rw length-zip (omega arith)))
+
+  -- The left ids never fall.
+  pub lefts-rise : (i j : ℕ) → i < j → j < length left → getD left i 0 ≤ getD left j 0
+  unfolding row-key
+  lefts-rise i j h k =
+      by-below (getD left j 0) (getD left i 0)
+      (λ l. never (sym (keys-ascend row-key (length left) row-step i j h k) ∙ or-greater (getD left i 0) (getD left j 0) _ l) refl refl)
+      (λ m. m)
 
   pub rows-fall : (l r : ℕ) → Falls (rowOrder left right l r) (length left)
   unfolding rowOrder row-key pairOrder

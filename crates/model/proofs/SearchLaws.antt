@@ -15,8 +15,9 @@ use Rattle.model.specs.declared.Order.{Order}
 use Rattle.model.specs.declared.Order.the-variants.{Less, Equal, Greater}
 use Rattle.model.specs.declared.Found.{Found}
 use Rattle.model.specs.declared.Found.the-variants.{At, Nothing}
-use Rattle.model.specs.Search.{byteOrder, searchOn, searchFor, searched, entryAt, isAt}
-use Rattle.model.proofs.OrderLaws.{isEqual, equal-is, never, unequal, by-numbers, turned, order-turned, equal-strings, keys-ascend}
+use Rattle.model.specs.ByteOrder.{byteOrder}
+use Rattle.model.specs.inner.Search.{searchOn, searchFor, searched, entryAt, isAt}
+use Rattle.model.proofs.OrderLaws.{isEqual, equal-is, never, unequal, by-below, by-numbers, turned, order-turned, equal-strings, keys-ascend}
 
 -- two searches that agree where the test holds
 agree : (b : Bool) {x y : Found} → (b ≡ true → x ≡ y) → cond b x Nothing ≡ cond b y Nothing
@@ -64,26 +65,26 @@ module _ (order : ℕ → Order) where
       ∙ rw (lt-ltb lo hi h)
       (settle (hi - lo) lo hi middle (order middle) (omega arith) (omega arith) (omega arith))
 
--- What a loop that searches by halves keeps: lo and hi stand within the n places, and the search from lo to hi ends as the whole does.
-pub record Halving (order : ℕ → Order) (n lo hi : ℕ) : Type 0 where
-  pub inside : hi ≤ n
-  pub same : searched order 0 n ≡ searched order lo hi
+-- What a loop that searches by halves keeps: lo and hi stand from `from` on and before `to`, and the search between them ends as the whole does.
+pub record Halving (order : ℕ → Order) (from to lo hi : ℕ) : Type 0 where
+  pub inside : hi ≤ to
+  pub same : searched order from to ≡ searched order lo hi
 
-module _ (order : ℕ → Order) (n : ℕ) where
-  pub halving-start : Halving order n 0 n
-  halving-start = record { inside = omega arith; same = refl }
+module _ (order : ℕ → Order) (from to : ℕ) where
+  pub halving-start : {hi : ℕ} → hi ≡ to → Halving order from to from hi
+  halving-start e = record { inside = omega arith; same = ap (searched order from) (sym e) }
 
-  module _ (lo hi : ℕ) (h : Halving order n lo hi) (l : lo < hi) where
-    pub halving-up : order ((lo + hi) / 2) ≡ Less → Halving order n ((lo + hi) / 2 + 1) hi
+  module _ (lo hi : ℕ) (h : Halving order from to lo hi) (l : lo < hi) where
+    pub halving-up : order ((lo + hi) / 2) ≡ Less → Halving order from to ((lo + hi) / 2 + 1) hi
     halving-up e = record { inside = h .inside; same = h .same ∙ searched-on order lo hi l ∙ rw e }
 
-    pub halving-down : order ((lo + hi) / 2) ≡ Greater → Halving order n lo ((lo + hi) / 2)
+    pub halving-down : order ((lo + hi) / 2) ≡ Greater → Halving order from to lo ((lo + hi) / 2)
     halving-down e = record { inside = omega (arith, h .inside); same = h .same ∙ searched-on order lo hi l ∙ rw e }
 
-    pub halving-found : order ((lo + hi) / 2) ≡ Equal → At ((lo + hi) / 2) ≡ searched order 0 n
+    pub halving-found : order ((lo + hi) / 2) ≡ Equal → At ((lo + hi) / 2) ≡ searched order from to
     halving-found e = sym (h .same ∙ searched-on order lo hi l ∙ rw e)
 
-  pub halving-none : (lo hi : ℕ) → Halving order n lo hi → hi ≤ lo → Nothing ≡ searched order 0 n
+  pub halving-none : (lo hi : ℕ) → Halving order from to lo hi → hi ≤ lo → Nothing ≡ searched order from to
   halving-none lo hi h l = sym (h .same ∙ searched-none order lo hi l)
 
 -- ---- what a search finds
@@ -117,6 +118,11 @@ module _ (order : ℕ → Order) where
       let inner = under (ltb lo hi) e in
       let l : lo < hi = ltb-true lo hi (inner .0) in
       sound-on turns lo hi i middle (order middle) refl (omega arith) (omega arith) (sound turns (middle + 1) hi i) (sound turns lo middle i) (inner .1)
+
+  -- A place that a search gives lies before its end.
+  pub found-below : (lo hi i : ℕ) → searched order lo hi ≡ At i → i < hi
+  unfolding searched Sound
+  found-below lo hi i e = sound (hi - lo) lo hi i e .1
 
   module _ (n : ℕ) where
     -- A place that a search gives is one of those searched, and equal.
@@ -154,6 +160,33 @@ module _ (order : ℕ → Order) where
     -- Where nothing is found, no place is equal.
     pub nothing-equal : Falls order n → searched order 0 n ≡ Nothing → (i : ℕ) → i < n → order i ≡ Equal → ⊥
     nothing-equal falls e i h is = nothing (sym e ∙ equal-found falls i is h)
+
+-- ---- a search in a part of the table
+
+module _ (order : ℕ → Order) (n : ℕ) (falls : Falls order n) (lo hi : ℕ) (inside : hi ≤ n) (under : (i : ℕ) → i < lo → i < n → order i ≡ Less) (over : (i : ℕ) → hi ≤ i → i < n → order i ≡ Greater) where
+  -- a place that is equal lies in the part
+  equal-within : (i : ℕ) → i < n → order i ≡ Equal → (lo ≤ i) × (i < hi)
+  equal-within i h e =
+      by-below i lo (λ l. never (sym (under i l h) ∙ e) refl refl)
+      (λ from. by-below i hi (λ upTo. (from, upTo)) (λ beyond. unequal (sym (over i beyond h) ∙ e) refl refl))
+
+  -- Where what stands before the part is less and what stands behind it greater, a search in the part ends as one in the whole does.
+  pub part-searched : searched order lo hi ≡ searched order 0 n
+  unfolding searched Sound
+  part-searched = go (searched order 0 n) refl
+    where
+      none : (f : Found) → searched order lo hi ≡ f → searched order 0 n ≡ Nothing → searched order lo hi ≡ Nothing
+      none (At j) e q =
+          let s = sound order (hi - lo) lo hi j e in
+          absurd (nothing-equal order n falls q j (omega (arith, s .1)) (s .2))
+      none Nothing e q = e
+
+      go : (f : Found) → searched order 0 n ≡ f → searched order lo hi ≡ searched order 0 n
+      go (At i) e =
+          let s = found-equal order n i e in
+          let w = equal-within i (s .0) (s .1) in
+          complete order n falls i (s .1) (hi - lo) lo hi (omega arith) (w .0) (w .1) inside ∙ sym e
+      go Nothing e = none (searched order lo hi) refl e ∙ sym e
 
 -- ---- the entry that is found
 

@@ -11,7 +11,7 @@ ghost use Prim.Native.Nat.{_+_, _≤_};
 ghost use lib.ListN.{length, take, drop};
 ghost use Rattle.model.specs.Mark.{mark};
 ghost use Rattle.normalise.specs.Spaces.{spacesMarked, schemePrepends, markPrepended};
-ghost use Rattle.normalise.specs.Fit.{Put, fitted, put};
+ghost use Rattle.normalise.specs.inner.Fit.{Put, fitted, put};
 
 fn scheme_prepends(scheme: PrependScheme, first: bool) -> bool
     ensures { λ r. ⌜ r ≡ schemePrepends scheme first ⌝ }

@@ -2,8 +2,12 @@
 pub mod BitLaws
 pub mod AdjacencyLaws
 pub mod SpanLaws
-pub mod CutLaws
+pub mod StartLaws
 pub mod NextLaws
+pub mod ShownLaws
+pub mod CutLaws
+pub mod UnitLaws
+pub mod GroupLaws
 pub mod CrossingLaws
 pub mod NotingLaws
 pub mod RawLaws

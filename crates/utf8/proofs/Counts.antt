@@ -44,6 +44,15 @@ module _ {ℓ} {A : Type ℓ} (test : A → Bool) (x : A) (xs : List A) where
   count-out : test x ≡ false → count test (x ∷ xs) ≡ count test xs
   count-out e = rw e
 
+-- No more pass than there are.
+pub count-within {ℓ} : {A : Type ℓ} (test : A → Bool) (xs : List A) → count test xs ≤ length xs
+count-within test [] = le-refl 0
+count-within test (x ∷ xs) = go (test x) refl (count-within test xs)
+  where
+    go : (b : Bool) → test x ≡ b → count test xs ≤ length xs → count test (x ∷ xs) ≤ suc (length xs)
+    go true e most = omega (arith, count-in test x xs e, most)
+    go false e most = omega (arith, count-out test x xs e, most)
+
 module _ {ℓ} {A : Type ℓ} (p q : A → Bool) (narrow : (x : A) → q x ≡ true → p x ≡ true) where
   -- ---- two tests, of which the second lets nothing pass that the first stops
 

@@ -12,3 +12,6 @@ pub mod Trim
 pub mod Starts
 pub mod Writing
 pub mod Counts
+pub mod Fronts
+pub mod Elements
+pub mod Joins

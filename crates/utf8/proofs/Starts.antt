@@ -60,7 +60,7 @@ pub same-refl : (p : List ℕ) → same p p ≡ true
 same-refl [] = refl
 same-refl (x ∷ p) = and-both (eq-eqb x x refl) (same-refl p)
 
-same-eq : (p q : List ℕ) → same p q ≡ true → p ≡ q
+pub same-eq : (p q : List ℕ) → same p q ≡ true → p ≡ q
 same-eq [] [] e = refl
 same-eq [] (y ∷ q) e = clash refl e
 same-eq (x ∷ p) [] e = clash refl e

@@ -130,7 +130,7 @@ longest-is-valid = by-chars (λ (t : List ℕ). valid (longestValidPrefix t) ≡
         ∙ ap valid (drop-at c rest (charWidth t) long)
         ∙ ih
 
-starts-with-char : (t : List ℕ) → 0 < length t → valid t ≡ true → 0 < charWidth t
+pub starts-with-char : (t : List ℕ) → 0 < length t → valid t ≡ true → 0 < charWidth t
 starts-with-char t pos v = go (charWidth t) refl
   where
     go : (w : ℕ) → charWidth t ≡ w → 0 < charWidth t

@@ -11,7 +11,7 @@ use Rattle.units.specs.Units.{cutBy}
 use Rattle.units.specs.Adjacency.{pairNoted}
 use Rattle.units.specs.Derived.{namedCrossings}
 use Rattle.units.specs.Next.{nextUnit}
-use Rattle.units.proofs.CutLaws.{uncut-byte}
+use Rattle.units.proofs.StartLaws.{uncut-byte}
 use Rattle.units.proofs.NextLaws.{searchFrom, search-start, search-found, search-next, search-ended, next-past}
 use lib.ListN.{length}
 use Rattle.units.proofs.cut.next_unit.Statement.{statement}

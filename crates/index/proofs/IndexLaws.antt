@@ -1,0 +1,305 @@
+-- Searches that begin from what is derived of an accepted model find what the whole tables hold.
+use mathlib.Core.Path.{_≡_, refl, sym, ap, _∙_}
+use mathlib.Core.Bool.{Bool, true, false}
+use mathlib.Core.List.{List, [], _∷_}
+use mathlib.Core.Option.{Option, none, some}
+use Prim.Native.Nat.{ℕ, _+_, _-_, _*_, _/_, _^_, _≤_, _<_, min}
+use native.Mathlib.Nat.{not-suc-le-zero, min-eq-left, le-refl, zero-add, div-mul-le-self, div-lt-iff-lt-mul, mul-le-mul-right}
+use native.Mathlib.Omega.{arith}
+use borrow.Author.Tests.{ltb-true, ltb-false, leb-false, eqb-true, lt-ltb, ne-eqb}
+use lib.Dec.{ltb, leb, eqb}
+use lib.Pow.{pow-pos}
+use lib.ListN.{length, getD, List·getD-eq-default}
+use Rattle.utf8.specs.Lists.{isEmpty, any, find, same, takeWhile, below}
+use Rattle.utf8.proofs.Tests.{clash, or-left, or-right}
+use Rattle.utf8.proofs.Places.{any-one, all-holds, getD-countFrom}
+use Rattle.utf8.proofs.Fronts.{front-within, front-passes, front-ended, front-past, getD-row, length-row}
+use Rattle.model.specs.Model.{Model, piece, lookupId, noId, piecesOf, mergeRows, rowOf}
+use Rattle.model.specs.Mark.{mark}
+use Rattle.model.specs.ByteOrder.{byteOrder}
+use Rattle.model.specs.inner.Search.{searched, pieceOrder, foundPiece, idAt, rowOrder, pairOrder, foundRow, rowFound}
+use Rattle.model.specs.Check.{namesNoPiece, lookupAscends, rowsAscend, allBelow}
+use Rattle.model.specs.declared.Order.the-variants.{Less, Greater}
+use Rattle.model.proofs.OrderLaws.{by-below, by-numbers, or-less, or-greater, or-else, never, equal-is, same-is-equal, equal-strings, order-turned, turned}
+use Rattle.model.proofs.SearchLaws.{searched-none, part-searched}
+use Rattle.model.proofs.LookupLaws.{no-piece, entries-rise, pieces-fall, id-found}
+use Rattle.model.proofs.RowLaws.{lefts-rise, rows-fall, row-found}
+use Rattle.model.proofs.StringLaws.{length-strings}
+use Rattle.model.proofs.Accepted.{Accepted}
+use Rattle.index.specs.Index.{firstByteStart, firstBytes, idOr, markId, bucketShift, bucketStart, buckets}
+use Rattle.index.specs.inner.Find.{idOf, keyStart, keyEnd, idFrom, rowFrom}
+
+-- ---- ids as numbers
+
+same-strings : (xs ys : List ℕ) → same xs ys ≡ true → xs ≡ ys
+same-strings xs ys e = equal-strings xs ys (equal-is (byteOrder xs ys) (sym (same-is-equal xs ys) ∙ e))
+
+no-none {ℓ} : {A : Type ℓ} {x : ℕ} → _≡_ {A = Option ℕ} none (some x) → A
+no-none e = let z : _≡_ {A = ℕ} 0 1 = cc in absurd (omega arith)
+
+-- What is found is of the list: what no element passes it does not pass.
+found-fails : (test other : ℕ → Bool) (xs : List ℕ) (x : ℕ) → find test xs ≡ some x → any other xs ≡ false → other x ≡ false
+found-fails test other [] x e n = no-none e
+found-fails test other (y ∷ ys) x e n = go (test y) refl (λ f. found-fails test other ys x f (or-right (other y) (any other ys) n))
+  where
+    go : (b : Bool) → test y ≡ b → (find test ys ≡ some x → other x ≡ false) → other x ≡ false
+    go true t rest =
+        let here : find test (y ∷ ys) ≡ some y = rw t in
+        let q : y ≡ x = cc in
+        rw (← q) (or-left (other y) (any other ys) n)
+    go false t rest = rest (sym (rw t) ∙ e)
+
+module _ (pieces : List (List ℕ)) (lookup : List ℕ) (named : any (namesNoPiece pieces) lookup ≡ false) where
+  -- An id that the lookup list gives is below the piece count.
+  pub id-below : (key : List ℕ) (id : ℕ) → lookupId pieces lookup key ≡ some id → id < length pieces
+  unfolding lookupId namesNoPiece
+  id-below key id e =
+      leb-false (length pieces) id
+      (or-left (leb (length pieces) id) (isEmpty (piece pieces id)) (found-fails _ (namesNoPiece pieces) lookup id e named))
+
+  -- The mark's id stands for what the lookup list gives the mark.
+  pub mark-id : length pieces ≤ noId → idOf (markId pieces lookup) ≡ lookupId pieces lookup mark
+  unfolding idOf markId
+  mark-id few = go (lookupId pieces lookup mark) refl
+    where
+      go : (o : Option ℕ) → lookupId pieces lookup mark ≡ o → idOf (idOr o) ≡ o
+      go none e = refl
+      go (some id) e = rw (ne-eqb id noId (below (id-below mark id e)))
+        where
+          below : id < length pieces → id ≡ noId → ⊥
+          below h q = omega arith
+
+-- ---- first bytes
+
+-- Where first bytes differ, they decide.
+first-less : (xs ys : List ℕ) → getD xs 0 0 < getD ys 0 0 → byteOrder xs ys ≡ Less
+first-less xs [] h = absurd (not-suc-le-zero h)
+first-less [] (y ∷ ys) h = refl
+first-less (x ∷ xs) (y ∷ ys) h = or-less x y (byteOrder xs ys) h
+
+first-greater : (xs ys : List ℕ) → getD ys 0 0 < getD xs 0 0 → byteOrder xs ys ≡ Greater
+first-greater xs ys h = order-turned ys xs ∙ ap turned (first-less ys xs h)
+
+-- A string that is not less has no lower first byte.
+first-rises : (xs ys : List ℕ) → byteOrder xs ys ≡ Less → getD xs 0 0 ≤ getD ys 0 0
+first-rises xs ys e = by-below (getD ys 0 0) (getD xs 0 0) (λ l. never (sym e ∙ first-greater xs ys l) refl refl) (λ m. m)
+
+-- Behind a string that is not empty and has no lower first byte than a string of one byte, only greater ones stand.
+past-one : (k : ℕ) (xs ys : List ℕ) → isEmpty xs ≡ false → k ≤ getD xs 0 0 → byteOrder xs ys ≡ Less → byteOrder ys (k ∷ []) ≡ Greater
+past-one k [] ys n h e = clash n refl
+past-one k (x ∷ xs) [] n h e = never (sym e) refl refl
+past-one k (x ∷ xs) (y ∷ ys) n h e =
+    let rises : x ≤ y = first-rises (x ∷ xs) (y ∷ ys) e in
+    by-numbers k y (λ l. or-greater y k (byteOrder ys []) l) (λ g. absurd (omega arith))
+    (λ q. or-else y k (byteOrder ys []) (sym q) ∙ longer ys (sym (or-else x y (byteOrder xs ys) (omega arith)) ∙ e))
+  where
+    longer : (ys : List ℕ) → byteOrder xs ys ≡ Less → byteOrder ys [] ≡ Greater
+    longer [] l = none-less xs l
+      where
+        none-less : (xs : List ℕ) → byteOrder xs [] ≡ Less → byteOrder [] [] ≡ Greater
+        none-less [] l = never (sym l) refl refl
+        none-less (x ∷ xs) l = never (sym l) refl refl
+    longer (y ∷ ys) l = refl
+
+one-byte : (key : List ℕ) → length key ≡ 1 → key ≡ getD key 0 0 ∷ []
+one-byte [] e = absurd (omega arith)
+one-byte (x ∷ []) e = refl
+one-byte (x ∷ y ∷ ys) e = absurd (omega arith)
+
+module _ (pieces : List (List ℕ)) (lookup : List ℕ) where
+  first-at : (b : ℕ) → b < 257 → getD (firstBytes pieces lookup) b 0 ≡ firstByteStart pieces lookup b
+  unfolding firstBytes
+  first-at b h = getD-row (firstByteStart pieces lookup) 257 b 0 h
+
+  first-within : (b : ℕ) → firstByteStart pieces lookup b ≤ length lookup
+  unfolding firstByteStart
+  first-within b = front-within _ lookup
+
+  -- the piece of an entry
+  abbrev entry : ℕ → List ℕ
+  entry i = piece pieces (getD lookup i 0)
+
+  first-before : (b i : ℕ) → i < firstByteStart pieces lookup b → getD (entry i) 0 0 < b
+  unfolding firstByteStart
+  first-before b i h = ltb-true (getD (entry i) 0 0) b (front-passes _ lookup i 0 h)
+
+  module _ (ascends : lookupAscends pieces lookup ≡ true) where
+    first-from : (b i : ℕ) → firstByteStart pieces lookup b ≤ i → i < length lookup → b ≤ getD (entry i) 0 0
+    unfolding firstByteStart
+    first-from b i h k =
+        ltb-false (getD (entry i) 0 0) b
+        (front-past _ lookup i 0
+        (λ j l e.
+        let rises = first-rises (entry j) (entry i) (entries-rise pieces lookup ascends j i l k) in
+        lt-ltb (getD (entry j) 0 0) b (omega (arith, ltb-true (getD (entry i) 0 0) b e)))
+        h k)
+
+    module _ (named : any (namesNoPiece pieces) lookup ≡ false) (key : List ℕ) (byte : getD key 0 0 < 256) where
+      start-is : keyStart (firstBytes pieces lookup) key ≡ firstByteStart pieces lookup (getD key 0 0)
+      unfolding keyStart
+      start-is = first-at (getD key 0 0) (omega arith)
+
+      end-one : eqb (length key) 1 ≡ true → keyEnd (firstBytes pieces lookup) key ≡ keyStart (firstBytes pieces lookup) key + 1
+      unfolding keyEnd
+      end-one e = rw e
+
+      end-more : eqb (length key) 1 ≡ false → keyEnd (firstBytes pieces lookup) key ≡ firstByteStart pieces lookup (getD key 0 0 + 1)
+      unfolding keyEnd
+      end-more e = rw e (first-at (getD key 0 0 + 1) (omega arith))
+
+      -- no entry has an empty piece
+      full : (i : ℕ) → i < length lookup → isEmpty (entry i) ≡ false
+      full i h = go (isEmpty (entry i)) refl
+        where
+          go : (b : Bool) → isEmpty (entry i) ≡ b → isEmpty (entry i) ≡ false
+          go true e = clash named (any-one (namesNoPiece pieces) lookup i 0 h (no-piece pieces (getD lookup i 0) ∙ e))
+          go false e = e
+
+      before-key : (i : ℕ) → i < keyStart (firstBytes pieces lookup) key → i < length lookup → pieceOrder pieces lookup key i ≡ Less
+      unfolding pieceOrder
+      before-key i h k = first-less (entry i) key (first-before (getD key 0 0) i (omega (arith, start-is)))
+
+      behind-key : (i : ℕ) → keyEnd (firstBytes pieces lookup) key ≤ i → i < length lookup → pieceOrder pieces lookup key i ≡ Greater
+      unfolding pieceOrder
+      behind-key i h k′ = go (eqb (length key) 1) refl
+        where
+          go : (b : Bool) → eqb (length key) 1 ≡ b → byteOrder (entry i) key ≡ Greater
+          go true e =
+              let k = getD key 0 0 in
+              let j = firstByteStart pieces lookup k in
+              let l : j < i = omega (arith, start-is, end-one e) in
+              ap (byteOrder (entry i)) (one-byte key (eqb-true (length key) 1 e))
+              ∙ past-one k (entry j) (entry i) (full j (omega arith)) (first-from k j (le-refl j) (omega arith)) (entries-rise pieces lookup ascends j i l k′)
+          go false e = first-greater (entry i) key (omega (arith, first-from (getD key 0 0 + 1) i (omega (arith, end-more e)) k′))
+
+      -- A search among the entries of the key's first byte ends as one in the whole list does.
+      pub key-searched : searched (pieceOrder pieces lookup key) (keyStart (firstBytes pieces lookup) key) (min (keyEnd (firstBytes pieces lookup) key) (length lookup)) ≡ foundPiece pieces lookup key
+      unfolding foundPiece
+      key-searched =
+          part-searched (pieceOrder pieces lookup key) (length lookup) (pieces-fall pieces lookup ascends key) _ _ (omega arith) before-key
+          (λ i h k. behind-key i (omega arith) k)
+
+      key-found : idAt lookup (searched (pieceOrder pieces lookup key) (keyStart (firstBytes pieces lookup) key) (min (keyEnd (firstBytes pieces lookup) key) (length lookup))) ≡ lookupId pieces lookup key
+      key-found = ap (idAt lookup) key-searched ∙ id-found pieces lookup ascends key
+
+      -- By first bytes and the mark's id a key has the id that the lookup list gives it.
+      pub id-from : length pieces ≤ noId → idFrom pieces lookup (firstBytes pieces lookup) (markId pieces lookup) key ≡ lookupId pieces lookup key
+      unfolding idFrom
+      id-from few = go (same key mark) refl
+        where
+          go : (b : Bool) → same key mark ≡ b → idFrom pieces lookup (firstBytes pieces lookup) (markId pieces lookup) key ≡ lookupId pieces lookup key
+          go true e = rw e (mark-id pieces lookup named few ∙ ap (lookupId pieces lookup) (sym (same-strings key mark e)))
+          go false e = rw e key-found
+
+-- ---- buckets of left ids
+
+module _ (left : List ℕ) (shift : ℕ) where
+  bucket-at : (b : ℕ) → b < 4097 → getD (buckets left shift) b 0 ≡ bucketStart left shift b
+  unfolding buckets
+  bucket-at b h = getD-row (bucketStart left shift) 4097 b 0 h
+
+  bucket-none : (b : ℕ) → 4097 ≤ b → getD (buckets left shift) b 0 ≡ 0
+  unfolding buckets
+  bucket-none b h = List·getD-eq-default (buckets left shift) 0 {n = b} (omega (arith, length-row (bucketStart left shift) 4097))
+
+  bucket-within : (b : ℕ) → bucketStart left shift b ≤ length left
+  unfolding bucketStart
+  bucket-within b = front-within _ left
+
+  bucket-before : (b i : ℕ) → i < bucketStart left shift b → getD left i 0 < b * 2 ^ shift
+  unfolding bucketStart
+  bucket-before b i h = ltb-true (getD left i 0) (b * 2 ^ shift) (front-passes _ left i 0 h)
+
+  module _ (right : List ℕ) (ascends : rowsAscend left right ≡ true) (level : length right ≡ length left) where
+    bucket-from : (b i : ℕ) → bucketStart left shift b ≤ i → i < length left → b * 2 ^ shift ≤ getD left i 0
+    unfolding bucketStart
+    bucket-from b i h k =
+        ltb-false (getD left i 0) (b * 2 ^ shift)
+        (front-past _ left i 0
+        (λ j l e.
+        let rises = lefts-rise left right ascends level j i l k in
+        lt-ltb (getD left j 0) (b * 2 ^ shift) (omega (arith, ltb-true (getD left i 0) (b * 2 ^ shift) e)))
+        h k)
+
+    module _ (l r : ℕ) where
+      left-less : (i : ℕ) → getD left i 0 < l → rowOrder left right l r i ≡ Less
+      unfolding rowOrder pairOrder
+      left-less i h = or-less (getD left i 0) l _ h
+
+      left-greater : (i : ℕ) → l < getD left i 0 → rowOrder left right l r i ≡ Greater
+      unfolding rowOrder pairOrder
+      left-greater i h = or-greater (getD left i 0) l _ h
+
+      abbrev bucket : ℕ
+      bucket = l / 2 ^ shift
+
+      bucket-low : bucket * 2 ^ shift ≤ l
+      bucket-low = div-mul-le-self l (2 ^ shift)
+
+      bucket-high : l < (bucket + 1) * 2 ^ shift
+      bucket-high = div-lt-iff-lt-mul (pow-pos shift) .0 (omega arith)
+
+      -- A search in the bucket of a left id ends as one among all rows does.
+      pub row-from : ((i : ℕ) → i < length left → getD left i 0 < 4096 * 2 ^ shift) → rowFrom left right (buckets left shift) shift l r ≡ foundRow left right l r
+      unfolding rowFrom foundRow
+      row-from few = by-below bucket 4096 inside outside
+        where
+          inside : bucket < 4096 → rowFrom left right (buckets left shift) shift l r ≡ foundRow left right l r
+          inside h =
+              rw (bucket-at bucket (omega arith), bucket-at (bucket + 1) (omega arith), min-eq-left (bucket-within (bucket + 1)))
+              (part-searched (rowOrder left right l r) (length left) (rows-fall left right ascends level l r) (bucketStart left shift bucket) (bucketStart left shift (bucket + 1)) (bucket-within (bucket + 1))
+              (λ i g k. left-less i (omega (arith, bucket-before bucket i g, bucket-low)))
+              (λ i g k. left-greater i (omega (arith, bucket-from (bucket + 1) i g k, bucket-high))))
+
+          all-less : 4096 ≤ bucket → (i : ℕ) → i < length left → rowOrder left right l r i ≡ Less
+          all-less h i k = left-less i (omega (arith, few i k, mul-le-mul-right (2 ^ shift) h, bucket-low))
+
+          outside : 4096 ≤ bucket → rowFrom left right (buckets left shift) shift l r ≡ foundRow left right l r
+          outside h =
+              rw (bucket-none (bucket + 1) (omega arith))
+              (searched-none (rowOrder left right l r) _ (min 0 (length left)) (omega arith)
+              ∙ sym (searched-none (rowOrder left right l r) (length left) (length left) (le-refl (length left)))
+              ∙ part-searched (rowOrder left right l r) (length left) (rows-fall left right ascends level l r) (length left) (length left) (le-refl (length left))
+              (λ i g k. all-less h i k)
+              (λ i g k. absurd (omega arith)))
+
+-- ---- an accepted model
+
+shift-room : (n : ℕ) → n ≤ 524288 → n ≤ 4096 * 2 ^ bucketShift n
+unfolding bucketShift
+shift-room n h = by-below s 7 fits last
+  where
+    test : ℕ → Bool
+    test = λ k. ltb (4096 * 2 ^ k) n
+
+    s : ℕ
+    s = length (takeWhile test (below 7))
+
+    fits : s < 7 → n ≤ 4096 * 2 ^ s
+    fits l = ltb-false (4096 * 2 ^ s) n (ap test (sym (getD-countFrom 0 7 s 0 l ∙ zero-add s)) ∙ front-ended test (below 7) 0 l)
+
+    last : 7 ≤ s → n ≤ 4096 * 2 ^ s
+    last g =
+        let all : s ≡ 7 = omega (arith, front-within test (below 7)) in
+        rw all h
+
+module _ (m : Model) (ok : Accepted m) where
+  pieces-few : length (piecesOf m) ≤ 524288
+  unfolding piecesOf
+  pieces-few = omega (arith, length-strings (m .pieceBytes) (m .pieceOffsets), ok .sizes .pieceLimit)
+
+  -- The id that is found by first bytes and the mark's id is the lookup list's, for every key of bytes, the empty one too.
+  pub id-by-index : (key : List ℕ) → getD key 0 0 < 256 → idFrom (piecesOf m) (m .lookup) (firstBytes (piecesOf m) (m .lookup)) (markId (piecesOf m) (m .lookup)) key ≡ lookupId (piecesOf m) (m .lookup) key
+  id-by-index key byte = id-from (piecesOf m) (m .lookup) (ok .lookupRises) (ok .lookupNames) key byte (omega (arith, pieces-few))
+
+  -- The place that is found by buckets is that which a search among all rows gives, for all pairs.
+  pub place-by-index : (l r : ℕ) → rowFrom (m .left) (m .right) (buckets (m .left) (bucketShift (length (piecesOf m)))) (bucketShift (length (piecesOf m))) l r ≡ foundRow (m .left) (m .right) l r
+  unfolding allBelow
+  place-by-index l r =
+      row-from (m .left) (bucketShift (length (piecesOf m))) (m .right) (ok .rowsRise) (sym (ok .sizes .rows .rights)) l r
+      (λ i h. omega (arith, ltb-true (getD (m .left) i 0) (length (piecesOf m)) (all-holds _ (m .left) i 0 (ok .leftsBelow) h), shift-room (length (piecesOf m)) pieces-few))
+
+  -- And so it gives the pair's row.
+  pub row-by-index : (l r : ℕ) → rowFound (mergeRows m) (rowFrom (m .left) (m .right) (buckets (m .left) (bucketShift (length (piecesOf m)))) (bucketShift (length (piecesOf m))) l r) ≡ rowOf (mergeRows m) l r
+  unfolding mergeRows
+  row-by-index l r = ap (rowFound (mergeRows m)) (place-by-index l r) ∙ row-found (m .left) (m .right) (m .result) (m .rank) (ok .rowsRise) (sym (ok .sizes .rows .rights)) l r

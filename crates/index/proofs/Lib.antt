@@ -1,0 +1,2 @@
+-- Laws on what is derived of the sorted tables.
+pub mod IndexLaws

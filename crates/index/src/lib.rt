@@ -1,0 +1,112 @@
+// Searches in the two sorted tables that begin from what was derived of them once.
+use model::Found;
+use model::compare::equal;
+use model::mark::MARK;
+use model::search::find_piece_between;
+use model::search::find_row_between;
+use model::tables::number_at;
+use model::tables::wide;
+ghost use mathlib.Core.Path.{_≡_};
+ghost use Prim.Native.Nat.{_/_, _^_, _<_};
+ghost use lib.ListN.{getD};
+ghost use Rattle.utf8.specs.Lists.{same};
+ghost use Rattle.model.specs.Mark.{mark};
+ghost use Rattle.model.specs.Model.{strings};
+ghost use Rattle.model.specs.inner.Search.{foundId};
+ghost use Rattle.index.specs.inner.Find.{idOf, keyStart, keyEnd, idFrom, rowFrom};
+
+// 4,294,967,295: no id.
+const NO_ID: u32 = 4294967295;
+
+// The id that a number of the index gives.
+pub fn id_of(id: u32) -> Found
+    ensures { λ r. ⌜ foundId r ≡ idOf id ⌝ }
+{
+    if id == NO_ID {
+        return Found::Nothing;
+    }
+    Found::At(wide(id))
+}
+
+// Whether `key` is the mark.
+pub fn is_mark(key: &[u8]) -> bool
+    ensures { λ r. ⌜ r ≡ same (now (key .entry)) mark ⌝ }
+{
+    equal(key, &MARK)
+}
+
+// The first byte of `key`, 0 where it has none.
+pub fn first_byte(key: &[u8]) -> usize
+    ensures { λ r. ⌜ (r ≡ getD (now (key .entry)) 0 0) × (r < 256) ⌝ }
+{
+    if key.len() == 0 {
+        return 0;
+    }
+    key[0] as usize
+}
+
+// Where the entries begin that may spell `key`.
+fn key_start(first_bytes: &[u32], key: &[u8]) -> usize
+    ensures { λ r. ⌜ (r ≡ keyStart (now («first_bytes» .entry)) (now (key .entry))) × (r < 4294967296) ⌝ }
+{
+    wide(number_at(first_bytes, first_byte(key)))
+}
+
+// Where the entries end that may spell `key`.
+fn key_end(first_bytes: &[u32], key: &[u8]) -> usize
+    ensures { λ r. ⌜ r ≡ keyEnd (now («first_bytes» .entry)) (now (key .entry)) ⌝ }
+{
+    if key.len() == 1 {
+        return key_start(first_bytes, key) + 1;
+    }
+    wide(number_at(first_bytes, first_byte(key) + 1))
+}
+
+// The id of the piece `key`. `first_bytes` says where the entries of each first byte begin in the lookup list, and `mark_id` is the mark's.
+pub fn find_id(
+    piece_bytes: &[u8],
+    piece_offsets: &[u32],
+    lookup: &[u32],
+    first_bytes: &[u32],
+    mark_id: u32,
+    key: &[u8],
+) -> Found
+    ensures { λ r. ⌜ foundId r ≡ idFrom (strings (now («piece_bytes» .entry)) (now («piece_offsets» .entry))) (now (lookup .entry)) (now («first_bytes» .entry)) «mark_id» (now (key .entry)) ⌝ }
+{
+    if is_mark(key) {
+        return id_of(mark_id);
+    }
+    let start = key_start(first_bytes, key);
+    let end = key_end(first_bytes, key);
+    match find_piece_between(piece_bytes, piece_offsets, lookup, key, start, end) {
+        Found::At(place) => Found::At(wide(number_at(lookup, place))),
+        Found::Nothing => Found::Nothing,
+    }
+}
+
+// The bucket of a left id.
+fn bucket_of(shift: u32, l: u32) -> usize
+    ensures { λ r. ⌜ (r ≡ l / 2 ^ shift) × (r < 4294967296) ⌝ }
+{
+    if 32 <= shift {
+        return 0;
+    }
+    wide(l >> shift)
+}
+
+// The place of the merge row of the pair `l`, `r`. `buckets` says where the rows of each bucket of left ids begin.
+pub fn find_row_from(
+    left: &[u32],
+    right: &[u32],
+    buckets: &[u32],
+    shift: u32,
+    l: u32,
+    r: u32,
+) -> Found
+    ensures { λ f. ⌜ f ≡ rowFrom (now (left .entry)) (now (right .entry)) (now (buckets .entry)) shift l r ⌝ }
+{
+    let bucket = bucket_of(shift, l);
+    let start = wide(number_at(buckets, bucket));
+    let end = wide(number_at(buckets, bucket + 1));
+    find_row_between(left, right, l, r, start, end)
+}

@@ -1,0 +1,157 @@
+-- `merge::start::init_symbols` meets its contract. The loop's invariant: the characters before `i` are spelled.
+use Prim.Native.Nat.{_+_, _-_, _≤_}
+use native.Mathlib.Omega.{arith}
+use borrow.Author.Needs.{needs}
+use lib.ListN.{length, take, drop, length-take}
+use Rattle.merge.specs.Start.{asMark, unitChars}
+use Rattle.merge.specs.inner.Laid.{ownFound, markedChars}
+use Rattle.merge.proofs.WalkLaws.{Stepped, stepped, unit-at, unit-over, Walked, walked-start, walked-next, walked-ended, given, given-one, mark-one, Onward, onward-start, onward-next}
+use Rattle.merge.proofs.start.init_symbols.Statement.{statement}
+use Rattle.merge.proofs.start.init_symbols.Tie as tie
+
+abbrev Inv-loop : tie.InvT-loop
+Inv-loop piece-bytes piece-offsets lookup fallback first-bytes mark-id unit raw virtual-mark out₀ count₀ drops₀ i₀ out count drops i =
+    (i ≤ length unit)
+    × (drops ≤ drops₀ + i)
+    × Onward (ownFound piece-bytes piece-offsets lookup first-bytes mark-id) fallback (unitChars raw unit) (unitChars raw (drop i unit)) out₀ count₀ drops₀ out count drops
+
+abbrev μ-loop : tie.MeasureT-loop
+μ-loop piece-bytes piece-offsets lookup fallback first-bytes mark-id unit raw virtual-mark out₀ count₀ drops₀ i₀ out count drops i = length unit - i
+
+abbrev start : tie.After-slice-known2 Inv-loop μ-loop → tie.Start Inv-loop μ-loop
+start f = f .before .before .before .before .before .before .before .before .before .before .before
+
+-- The walk as it stands at the loop's test.
+walked : (a : tie.At-loop Inv-loop μ-loop)
+    → Walked (ownFound (start (a .before) .args .piece-bytes .now) (start (a .before) .args .piece-offsets .now) (start (a .before) .args .lookup .now) (start (a .before) .args .first-bytes .now) (start (a .before) .args .mark-id)) (start (a .before) .args .fallback .now)
+    (markedChars (start (a .before) .args .virtual-mark) (start (a .before) .args .raw) (start (a .before) .args .unit .now))
+    (unitChars (start (a .before) .args .raw) (drop (a .loop .i) (start (a .before) .args .unit .now)))
+    (start (a .before) .args .out .now) (a .loop .out) (a .loop .count) (a .loop .drops)
+walked a =
+    let st = start (a .before) .args in
+    a .loop .inv .2 .goes (walked-start (ownFound (st .piece-bytes .now) (st .piece-offsets .now) (st .lookup .now) (st .first-bytes .now) (st .mark-id)) (st .fallback .now) (st .virtual-mark) (st .raw) (st .unit .now) (st .out .now) (a .before .before .before .spell-mark .ensures))
+
+here : (f : tie.After-char-step Inv-loop μ-loop) → Stepped (start (f .before .before .before .before) .args .unit .now) (f .before .before .before .loop .i) (f .char-step .result)
+here f = stepped (start (f .before .before .before .before) .args .unit .now) (f .before .before .before .loop .i) (f .char-step .result) (f .before .before .loop-test .taken) (f .char-step .ensures)
+
+spell-mark-requires : tie.Need-spell-mark-requires Inv-loop μ-loop
+spell-mark-requires c κs = search needs
+
+loop-holds : tie.Need-loop-holds Inv-loop μ-loop
+loop-holds c = (search needs, search needs, onward-start _ _ _ _ _ _)
+
+sub-char-step : tie.Need-sub-char-step Inv-loop μ-loop
+sub-char-step c = search needs
+
+part-char-step-start : tie.Need-part-char-step-start Inv-loop μ-loop
+part-char-step-start c = search needs
+
+part-char-step-end : tie.Need-part-char-step-end Inv-loop μ-loop
+part-char-step-end c = search needs
+
+char-step-requires : tie.Need-char-step-requires Inv-loop μ-loop
+char-step-requires c κs = search needs
+
+add-next : tie.Need-add-next Inv-loop μ-loop
+add-next c = omega (arith, here c .ends)
+
+sub-spell-as : tie.Need-sub-spell-as Inv-loop μ-loop
+sub-spell-as c = search needs
+
+part-spell-as-start : tie.Need-part-spell-as-start Inv-loop μ-loop
+part-spell-as-start c = search needs
+
+part-spell-as-end : tie.Need-part-spell-as-end Inv-loop μ-loop
+part-spell-as-end c = here c .ends
+
+mul-spell-as : tie.Need-mul-spell-as Inv-loop μ-loop
+mul-spell-as c =
+    let a = c .before .before .before .before in
+    omega (arith, start (a .before) .good .1 .1 .1 .1 .1 .1 .1 .1 .1 .0 .1, walked a .laying .count .within)
+
+sub-spell-as-2 : tie.Need-sub-spell-as-2 Inv-loop μ-loop
+sub-spell-as-2 c =
+    let w = walked (c .before .before .before .before) in
+    omega (arith, w .laying .count .within, w .laying .long)
+
+part-spell-as-start-2 : tie.Need-part-spell-as-start-2 Inv-loop μ-loop
+part-spell-as-start-2 c =
+    let w = walked (c .before .before .before .before) in
+    omega (arith, w .laying .count .within, w .laying .long)
+
+part-spell-as-end-2 : tie.Need-part-spell-as-end-2 Inv-loop μ-loop
+part-spell-as-end-2 c = search needs
+
+spell-as-requires : tie.Need-spell-as-requires Inv-loop μ-loop
+spell-as-requires c κs = search needs
+
+add-count : tie.Need-add-count Inv-loop μ-loop
+add-count c =
+    let f = c .before .before .before in
+    let a = f .before .before .before .before .before .before in
+    let st = start (a .before) .args in
+    let char = asMark (st .raw) (take (a .loop .i + f .before .before .before .char-step .result - a .loop .i) (drop (a .loop .i) (st .unit .now))) in
+    let g = given (ownFound (st .piece-bytes .now) (st .piece-offsets .now) (st .lookup .now) (st .first-bytes .now) (st .mark-id)) (st .fallback .now) char (take (length (a .loop .out) - a .loop .count) (drop (a .loop .count) (a .loop .out))) (f .spell-as .ensures) in
+    let w = walked a in
+    omega (arith, start (a .before) .good .1 .1 .1 .1 .1 .1 .1 .1 .1 .0 .0, g .count, length-take (length (a .loop .out) - a .loop .count) (drop (a .loop .count) (a .loop .out)), w .laying .count .within, w .laying .long)
+
+add-drops : tie.Need-add-drops Inv-loop μ-loop
+add-drops c =
+    let f = c .before .before .before .before in
+    let a = f .before .before .before .before .before .before in
+    let st = start (a .before) .args in
+    let char = asMark (st .raw) (take (a .loop .i + f .before .before .before .char-step .result - a .loop .i) (drop (a .loop .i) (st .unit .now))) in
+    let g = given (ownFound (st .piece-bytes .now) (st .piece-offsets .now) (st .lookup .now) (st .first-bytes .now) (st .mark-id)) (st .fallback .now) char (take (length (a .loop .out) - a .loop .count) (drop (a .loop .count) (a .loop .out))) (f .spell-as .ensures) in
+    let first = mark-one (ownFound (st .piece-bytes .now) (st .piece-offsets .now) (st .lookup .now) (st .first-bytes .now) (st .mark-id)) (st .fallback .now) (st .virtual-mark) (st .out .now) (a .before .before .before .spell-mark .ensures) in
+    omega (arith, start (a .before) .good .1 .1 .1 .1 .1 .1 .0 .1, given-one g, first, a .loop .inv .1, a .loop .inv .0)
+
+loop-less : tie.Need-loop-less Inv-loop μ-loop
+loop-less c =
+    let h = here (c .before .before .before .before .before .before .before) in
+    omega (arith, h .some, h .ends)
+
+loop-again : tie.Need-loop-again Inv-loop μ-loop
+loop-again c =
+    let f = c .before .before .before .before in
+    let a = f .before .before .before .before .before .before in
+    let st = start (a .before) .args in
+    let char = asMark (st .raw) (take (a .loop .i + f .before .before .before .char-step .result - a .loop .i) (drop (a .loop .i) (st .unit .now))) in
+    let g = given (ownFound (st .piece-bytes .now) (st .piece-offsets .now) (st .lookup .now) (st .first-bytes .now) (st .mark-id)) (st .fallback .now) char (take (length (a .loop .out) - a .loop .count) (drop (a .loop .count) (a .loop .out))) (f .spell-as .ensures) in
+    let h = here (f .before .before .before) in
+    (h .ends, omega (arith, given-one g, a .loop .inv .1, h .some), onward-next (a .loop .inv .2) (unit-at (st .raw) (st .unit .now) (a .loop .i) h (f .before .before .before .before .before .loop-test .taken)) g)
+
+same-length : tie.Need-same-length Inv-loop μ-loop
+same-length c = walked (c .before) .laying .long
+
+returns : tie.Need-returns Inv-loop μ-loop
+returns c =
+    let st = start (c .before .before) .args in
+    walked-ended (walked (c .before)) (unit-over (st .raw) (st .unit .now) (c .before .loop .i) (c .loop-test .left))
+
+pub init-symbols-spec : {M : Type 1} → statement M
+init-symbols-spec =
+    tie.close
+    (tie.spec
+    Inv-loop
+    μ-loop
+    spell-mark-requires
+    loop-holds
+    sub-char-step
+    part-char-step-start
+    part-char-step-end
+    char-step-requires
+    add-next
+    sub-spell-as
+    part-spell-as-start
+    part-spell-as-end
+    mul-spell-as
+    sub-spell-as-2
+    part-spell-as-start-2
+    part-spell-as-end-2
+    spell-as-requires
+    add-count
+    add-drops
+    loop-less
+    loop-again
+    same-length
+    returns)

@@ -1,0 +1,3 @@
+-- What only the inner functions' contracts need.
+pub mod Laid
+pub mod Turns
