@@ -10,3 +10,5 @@ pub mod UnitLaws
 pub mod GroupLaws
 pub mod CrossingLaws
 pub mod NotingLaws
+pub mod RawLaws
+pub mod DerivedLaws
