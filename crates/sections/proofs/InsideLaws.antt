@@ -75,17 +75,17 @@ module _ (contents : List (List ℕ)) (text : List ℕ) where
           let content : getD contents row [] ≡ c .1 = ap (λ (r : ℕ). getD contents r []) (sym same) ∙ sym (stands .is) in
           omega (arith, ap length content, starts-length (c .1) text (stands .starts))
 
-module _ (first : List ℕ) (contents : List (List ℕ)) where
-  ends-inside : (place : ℕ) (text : List ℕ) (match : Match) → matchBy first contents place text ≡ some match → end contents match ≤ place + length text
+module _ (begins : List ℕ) (contents : List (List ℕ)) where
+  ends-inside : (place : ℕ) (text : List ℕ) (match : Match) → matchBy begins contents place text ≡ some match → end contents match ≤ place + length text
   unfolding end
   ends-inside place [] match q = not-none q
-  ends-inside place (b ∷ text) match q = go (λ e. ends-inside (suc place) text match e) (mayBegin first b) (rowAt contents (b ∷ text)) refl q
+  ends-inside place (b ∷ text) match q = go (λ e. ends-inside (suc place) text match e) (mayBegin begins b) (rowAt contents (b ∷ text)) refl q
     where
       Within : ℕ → List ℕ → Type 0
       Within p t = match .place + length (getD contents (match .row) []) ≤ p + length t
 
-      go : (matchBy first contents (suc place) text ≡ some match → Within (suc place) text)
-          → (t : Bool) (o : Option ℕ) → rowAt contents (b ∷ text) ≡ o → placed place (cond t o none) (matchBy first contents (suc place) text) ≡ some match → Within place (b ∷ text)
+      go : (matchBy begins contents (suc place) text ≡ some match → Within (suc place) text)
+          → (t : Bool) (o : Option ℕ) → rowAt contents (b ∷ text) ≡ o → placed place (cond t o none) (matchBy begins contents (suc place) text) ≡ some match → Within place (b ∷ text)
       go later false o e s = omega (arith, later s)
       go later true none e s = omega (arith, later s)
       go later true (some row) e s =
@@ -95,8 +95,8 @@ module _ (first : List ℕ) (contents : List (List ℕ)) where
           omega (arith, at, ap length of, row-inside contents (b ∷ text) row e)
 
   -- A match ends within its text.
-  pub match-inside : (text : List ℕ) (from : ℕ) (match : Match) → matchBy first contents from (drop from text) ≡ some match → end contents match ≤ length text
+  pub match-inside : (text : List ℕ) (from : ℕ) (match : Match) → matchBy begins contents from (drop from text) ≡ some match → end contents match ≤ length text
   match-inside text from match q =
       ⊎-elim (λ e. omega (arith, ltb-true from (length text) e, ends-inside from (drop from text) match q, length-drop from text))
-      (λ e. not-none (sym (ap (matchBy first contents from) (drop-of-length-le text (ltb-false from (length text) e))) ∙ q))
+      (λ e. not-none (sym (ap (matchBy begins contents from) (drop-of-length-le text (ltb-false from (length text) e))) ∙ q))
       (either (ltb from (length text)))
