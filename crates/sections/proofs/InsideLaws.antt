@@ -2,7 +2,7 @@
 use Prim.Native.Nat.{ℕ, zero, suc, _+_, _≤_, _<_}
 use native.Mathlib.Omega.{arith}
 use native.Mathlib.Nat.{suc-add, add-suc}
-use mathlib.Core.Path.{_≡_, refl, sym, ap, ap₂, subst, _∙_}
+use mathlib.Core.Path.{_≡_, refl, sym, ap, subst, _∙_}
 use mathlib.Core.Bool.{Bool, true, false, cond}
 use mathlib.Core.Logic.{⊎-elim}
 use mathlib.Core.List.{List, [], _∷_}
@@ -10,14 +10,13 @@ use mathlib.Core.Option.{Option, none, some}
 use borrow.Author.Tests.{ltb-true, ltb-false}
 use lib.Dec.{leb, ltb}
 use lib.ListN.{length, getD, drop, length-drop, drop-of-length-le}
-use lib.Seq.{drop-cons}
 use Rattle.utf8.specs.Lists.{filter, numbered, startsWith}
 use Rattle.utf8.proofs.Tests.{either}
 use Rattle.utf8.proofs.Starts.{starts-length}
-use Rattle.utf8.proofs.Places.{length-numbered, getD-numbered}
+use Rattle.utf8.proofs.Places.{length-numbered}
 use Rattle.sections.specs.Matches.{Match, end, longer, longest, longestAt}
-use Rattle.sections.specs.inner.Seek.{mayBegin, rowIn, rowAt, rowBy, placed, matchBy}
-use Rattle.sections.proofs.SeekLaws.{longestFrom}
+use Rattle.sections.specs.inner.Seek.{mayBegin, rowIn, rowAt, placed, matchBy}
+use Rattle.sections.proofs.SeekLaws.{numbered-at}
 
 -- A content with its row that stands at the head of the text.
 record Standing (contents : List (List ℕ)) (text : List ℕ) (c : ℕ × List ℕ) : Type 0 where
@@ -32,12 +31,7 @@ module _ (contents : List (List ℕ)) (text : List ℕ) where
   rest i = filter (λ (c : ℕ × List ℕ). startsWith (c .1) text) (drop i (numbered contents))
 
   from-row : (i : ℕ) → i < length contents → (t : Bool) → startsWith (getD contents i []) text ≡ t → rest i ≡ cond t ((i, getD contents i []) ∷ rest (suc i)) (rest (suc i))
-  from-row i h t e = rw (whole, e)
-    where
-      whole : drop i (numbered contents) ≡ (i, getD contents i []) ∷ drop (suc i) (numbered contents)
-      whole =
-          drop-cons (numbered contents) i (0, []) (omega (arith, length-numbered contents))
-          ∙ ap (λ (c : ℕ × List ℕ). c ∷ drop (suc i) (numbered contents)) (getD-numbered contents i 0 [] h)
+  from-row i h t e = rw (numbered-at contents i h, e)
 
   longest-stands : (k i : ℕ) → i + k ≡ length contents → (c : ℕ × List ℕ) → longest (rest i) ≡ some c → Standing contents text c
   longest-stands zero i e c q =

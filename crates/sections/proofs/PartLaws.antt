@@ -23,8 +23,6 @@ use Rattle.sections.specs.SecondList.{NormalPart, normalPartOf, normalPa
 use Rattle.sections.specs.inner.Seek.{matchBy}
 use Rattle.sections.specs.inner.Strips.{stopAt, startAt}
 use Rattle.sections.specs.inner.Walk.{takenOr, takenFor, tokenItem, itemAt, nextItem, partsStart}
-use Rattle.sections.specs.declared.Taken.{Taken}
-use Rattle.sections.specs.declared.Taken.the-variants.{Here, Nowhere}
 use Rattle.sections.specs.declared.Cursor.{Cursor}
 use Rattle.sections.specs.declared.Cursor.the-variants.{Whole, Seek, Held, Done}
 use Rattle.sections.specs.declared.Next.{Next}

@@ -1,19 +1,17 @@
 -- Following a walk item by item gives the sections of a text and the tokens between them.
 use Prim.Native.Nat.{ℕ, zero, suc, _-_}
-use mathlib.Core.Path.{_≡_, refl, sym, ap, _∙_}
+use mathlib.Core.Path.{_≡_, refl, _∙_}
 use mathlib.Core.Bool.{Bool, true, false, cond}
 use mathlib.Core.List.{List, [], _∷_, _++_}
 use mathlib.Core.Option.{Option, none, some}
 use lib.Dec.{ltb, eqb}
 use lib.ListN.{length, drop}
-use Rattle.utf8.specs.Lists.{isEmpty}
 use Rattle.utf8.proofs.Places.{empty-by-length}
 use Rattle.model.specs.Model.{TokenList, contents, tokenAt}
 use Rattle.model.specs.Check.{badToken}
 use Rattle.model.proofs.StringLaws.{length-strings}
 use Rattle.sections.specs.Matches.{Match, end, firstMatch, matchThen, matchesFor, matches}
 use Rattle.sections.specs.Sections.{Item, token, plain, Section, stopBefore, startAfter, sectionOf, isSwallowed, sectionsFrom, sections}
-use Rattle.sections.specs.inner.Seek.{matchBy}
 use Rattle.sections.specs.inner.Strips.{stopAt, startAt}
 use Rattle.sections.specs.inner.Walk.{takenOr, takenFor, tokenItem, itemAt, nextItem, sectionsStart}
 use Rattle.sections.specs.declared.Taken.{Taken}

@@ -2,8 +2,8 @@
 use Prim.Native.Nat.{ℕ, suc, _+_, _-_, _≤_, _<_}
 use native.Mathlib.Omega.{arith}
 use native.Mathlib.Numerals.{add-one}
-use mathlib.Core.Path.{_≡_, refl, sym, ap, ap₂, _∙_}
-use mathlib.Core.Bool.{Bool, true, false, not, cond, _&&_, _||_}
+use mathlib.Core.Path.{_≡_, refl, sym, ap, _∙_}
+use mathlib.Core.Bool.{Bool, true, false, not, cond, _||_}
 use mathlib.Core.Logic.{⊎-elim}
 use mathlib.Core.List.{List, [], _∷_, _++_, map, append-nil}
 use mathlib.Core.Option.{Option, none, some}
@@ -124,6 +124,12 @@ first-sound contents n = record { none-begins = λ b e. at-byte b e }
 
 -- ---- the longest content at the head of a text
 
+-- The rows from i on begin with that of i.
+pub numbered-at : (contents : List (List ℕ)) (i : ℕ) → i < length contents → drop i (numbered contents) ≡ (i, getD contents i []) ∷ drop (suc i) (numbered contents)
+numbered-at contents i h =
+    drop-cons (numbered contents) i (0, []) (omega (arith, length-numbered contents))
+    ∙ ap (λ (c : ℕ × List ℕ). c ∷ drop (suc i) (numbered contents)) (getD-numbered contents i 0 [] h)
+
 -- The longest of those from row i on.
 abbrev pub longestFrom : List (List ℕ) → List ℕ → ℕ → Option (ℕ × List ℕ)
 longestFrom contents text i = longest (filter (λ (c : ℕ × List ℕ). startsWith (c .1) text) (drop i (numbered contents)))
@@ -167,9 +173,7 @@ module _ (contents : List (List ℕ)) (text : List ℕ) where
         next = omega arith
 
         whole : drop (row - 1) (numbered contents) ≡ (row - 1, content) ∷ drop row (numbered contents)
-        whole =
-            drop-cons (numbered contents) (row - 1) (0, []) (omega (arith, length-numbered contents))
-            ∙ ap₂ {C = List (ℕ × List ℕ)} _∷_ (getD-numbered contents (row - 1) 0 [] (omega arith)) (ap (λ (n : ℕ). drop n (numbered contents)) next)
+        whole = numbered-at contents (row - 1) (omega arith) ∙ ap (λ (n : ℕ). (row - 1, content) ∷ drop n (numbered contents)) next
 
     pub best-apart : startsWith content text ≡ false → Best contents text (row - 1) best long
     best-apart e = record { is = one-more false e ∙ b .is; size = b .size }

@@ -1,5 +1,5 @@
 -- Laws of where tokens end and of what strips take.
-use Prim.Native.Nat.{ℕ, _+_, _-_, _≤_, max, min}
+use Prim.Native.Nat.{ℕ, _+_, _-_, _≤_, max}
 use native.Mathlib.Omega.{arith}
 use mathlib.Core.Path.{_≡_, refl, ap, _∙_}
 use mathlib.Core.Bool.{Bool, true, false}

@@ -1,17 +1,16 @@
 -- Laws of the next match that is not swallowed: one match more.
-use Prim.Native.Nat.{ℕ, zero, suc, _-_, _≤_, _<_, min}
+use Prim.Native.Nat.{ℕ, zero, suc, _-_, _≤_, _<_}
 use native.Mathlib.Omega.{arith}
-use mathlib.Core.Path.{_≡_, refl, sym, ap, _∙_}
+use mathlib.Core.Path.{_≡_, sym, ap, _∙_}
 use mathlib.Core.List.{List}
-use mathlib.Core.Option.{Option, none, some}
+use mathlib.Core.Option.{none, some}
 use borrow.Author.Tests.{lt-ltb, le-ltb}
-use lib.ListN.{length, drop}
+use lib.ListN.{drop}
 use Rattle.sections.specs.Matches.{Match, end}
 use Rattle.sections.specs.Sections.{isSwallowed}
 use Rattle.sections.specs.inner.Seek.{matchBy}
 use Rattle.sections.specs.inner.Strips.{endWithin}
 use Rattle.sections.specs.inner.Walk.{takenOr, takenFor}
-use Rattle.sections.specs.declared.Taken.{Taken}
 use Rattle.sections.specs.declared.Taken.the-variants.{Here, Nowhere}
 use Rattle.sections.proofs.InsideLaws.{match-inside}
 

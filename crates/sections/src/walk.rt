@@ -11,7 +11,6 @@ use crate::strips::token_end;
 use model::tables::number_at;
 use model::tables::string_count;
 ghost use mathlib.Core.Path.{_≡_};
-ghost use lib.ListN.{length};
 ghost use Rattle.model.specs.Model.{strings, tokenList};
 ghost use Rattle.sections.specs.inner.Walk.{takenFor, tokenItem, itemAt, nextItem, sectionsStart, partsStart};
 
