@@ -48,13 +48,13 @@ extern "C" {
 #define VARITMOL_WRONG_SIZE 1        /* a size is exceeded, an offset row is empty, columns differ in length, fallback
                                         has not 256 ids, or steps or metaspace are no such numbers */
 #define VARITMOL_OFFSETS_ASTRAY 2    /* offsets or step strings do not lie in order inside their bytes */
-#define VARITMOL_BAD_PIECE 3         /* a piece is neither valid UTF-8 nor one byte */
+#define VARITMOL_BAD_PIECE 3         /* a piece of two bytes or more is not valid UTF-8 */
 #define VARITMOL_BAD_LOOKUP 4        /* the lookup list is out of order, incomplete, or names no piece */
 #define VARITMOL_BAD_FALLBACK 5      /* a fallback id is not that of the byte's piece */
-#define VARITMOL_BAD_ROW 6           /* a merge row is out of order, names no piece, or does not join its two sides */
-#define VARITMOL_BAD_TOKEN 7         /* a token's content is empty or not valid UTF-8 */
-#define VARITMOL_BAD_STEP 8          /* a step's string is not valid UTF-8 */
-#define VARITMOL_BAD_TEXT 9          /* the text is not valid UTF-8 */
+#define VARITMOL_BAD_ROW 6           /* merge rows out of order, an id without a piece, or a result that does not join its sides */
+#define VARITMOL_BAD_TOKEN 7         /* an added token is empty or no valid UTF-8 */
+#define VARITMOL_BAD_STEP 8          /* a string of a step is no valid UTF-8 */
+#define VARITMOL_BAD_TEXT 9          /* the text is no valid UTF-8 */
 #define VARITMOL_SCRATCH_TOO_SHORT 11 /* an output of a step or of metaspace is longer than the shorter scratch buffer */
 #define VARITMOL_RESULT_TOO_SHORT 12 /* the result buffer is too short */
 

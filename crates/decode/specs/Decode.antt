@@ -19,23 +19,23 @@ use Rattle.model.specs.declared.PrependScheme.the-variants.{Never, Always, Firs
 unfoldable pub hasPiece : List (List ℕ) → ℕ → Bool
 hasPiece pieces id = ltb id (length pieces)
 
--- "Join the pieces; ids not below the piece count are skipped".
+-- Rule 12.1: the pieces joined, ids without one passed over.
 unfoldable pub joinedBytes : List (List ℕ) → List ℕ → List ℕ
 joinedBytes pieces ids = joinMap (piece pieces) (filter (hasPiece pieces) ids)
 
--- "And counted".
+-- How many ids were passed over.
 unfoldable pub skips : List (List ℕ) → List ℕ → ℕ
 skips pieces ids = count (λ (id : ℕ). not (hasPiece pieces id)) ids
 
--- EF BF BD.
+-- U+FFFD, EF BF BD.
 unfoldable pub replacement : List ℕ
 replacement = 0xEF ∷ 0xBF ∷ 0xBD ∷ []
 
--- "Each byte that belongs to no valid character becomes EF BF BD."
+-- Rule 12.2: U+FFFD for every stray byte.
 unfoldable pub straysReplaced : List ℕ → List ℕ
 straysReplaced bytes = joinMap (λ (c : List ℕ). cond (isChar c) c replacement) (chars bytes)
 
--- "Marks become spaces."
+-- Rule 12.3: a space for every mark.
 unfoldable pub marksSpaced : List ℕ → List ℕ
 marksSpaced bytes = joinMap (λ (c : List ℕ). cond (same c mark) space c) (chars bytes)
 
@@ -51,18 +51,18 @@ isPrepend (Replace pattern content) = false
 isPrepend (CollapseSpaces content) = false
 isPrepend (Strip left right) = false
 
--- "If metaspace is present with a scheme other than Never, or any Prepend step exists".
+-- Rule 12.4: the model puts something in front of texts.
 unfoldable pub prependsSpace : Metaspace → List Step → Bool
 prependsSpace metaspace steps = prependsMark metaspace || any isPrepend steps
 
--- "One leading space goes."
+-- Without the space in front, where it is to go.
 unfoldable pub leadingSpaceGone : Bool → List ℕ → List ℕ
 leadingSpaceGone wanted bytes = cond (wanted && startsWith space bytes) (drop 1 bytes) bytes
 
 unfoldable pub decodedBytes : Model → List ℕ → List ℕ
 decodedBytes m ids = leadingSpaceGone (prependsSpace (m .metaspace) (stepsOf m)) (marksSpaced (straysReplaced (joinedBytes (piecesOf m) ids)))
 
--- "Decode tests no text"; out is the result buffer's length.
+-- Of the numbers beyond the model's only 12 is tested (rule 3.3); out is the result buffer's length.
 unfoldable pub decodeNumber : Model → List ℕ → ℕ → ℕ
 decodeNumber m ids out = lowest (modelTests m (length ids) ++ ((12, ltb out (length (decodedBytes m ids))) ∷ []))
 

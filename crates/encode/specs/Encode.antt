@@ -37,7 +37,7 @@ idsOf m (plain s) = joinMap (unitIds m) (stretchUnits m s)
 unfoldable pub encodedIds : Model → Bool → List ℕ → List ℕ
 encodedIds m continuation text = joinMap (idsOf m) (parts m continuation text)
 
--- "A character or virtual mark not spelled whole is dropped, counted once."
+-- Rule 9.4: the drops of a stretch.
 unfoldable pub dropsOf : Model → Item Stretch → ℕ
 dropsOf m (token id) = 0
 dropsOf m (plain s) = count (isDropped (vocabularyOf m)) (join (stretchUnits m s))
@@ -45,7 +45,7 @@ dropsOf m (plain s) = count (isDropped (vocabularyOf m)) (join (stretchUnits m s
 unfoldable pub drops : Model → Bool → List ℕ → ℕ
 drops m continuation text = sum (map (dropsOf m) (parts m continuation text))
 
--- "Starting ids over all sections, plus one per token emitted".
+-- Rule 3.5: the cells that a part needs before any merge.
 unfoldable pub startsOf : Model → Item Stretch → ℕ
 startsOf m (token id) = 1
 startsOf m (plain s) = length (joinMap (startingIds (vocabularyOf m)) (join (stretchUnits m s)))
@@ -63,7 +63,7 @@ sectionOutputs m text (token id) = []
 sectionOutputs m text (plain section) =
     stepOutputs m (bytesOf text section) ++ joinMap (metaspaceOutputOf m) (normalPartsOf m text section)
 
--- The outputs that 11 looks at: those of "encoding off the raw path".
+-- The outputs that 11 looks at (rule 3.4): none on the raw path.
 unfoldable pub encodeOutputs : Model → RawPath → List ℕ → List (List ℕ)
 encodeOutputs m (Present prepend) text = []
 encodeOutputs m Absent text = joinMap (sectionOutputs m text) (sections (m .first) text)

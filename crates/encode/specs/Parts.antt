@@ -21,14 +21,14 @@ pub record Stretch : Type 0 where
   pub virtual : Bool
   pub raw : Bool
 
--- "Unguarded always; GuardedAlways if it doesn't begin with a mark or space; GuardedFirst likewise but only in the first section".
+-- Rule 7.6: the path puts a virtual mark in front of the section; opening says that no token was taken before it.
 unfoldable pub prependsMark : RawPrepend → Bool → List ℕ → Bool
 prependsMark Never opening bytes = false
 prependsMark Unguarded opening bytes = true
 prependsMark GuardedAlways opening bytes = not (startsWithMark true bytes)
 prependsMark GuardedFirst opening bytes = opening && not (startsWithMark true bytes)
 
--- "A continuation's opening section never."
+-- The same for a text that may be a continuation: its opening section gets none.
 unfoldable pub virtualMark : RawPrepend → Bool → Bool → List ℕ → Bool
 virtualMark prepend continuation opening bytes = not (continuation && opening) && prependsMark prepend opening bytes
 
@@ -36,16 +36,16 @@ virtualMark prepend continuation opening bytes = not (continuation && opening) &
 unfoldable pub stretch : List ℕ → Bool → Bool → List (Item Stretch)
 stretch bytes virtual raw = cond (isEmpty bytes) [] (plain (record { bytes = bytes; virtual = virtual; raw = raw }) ∷ [])
 
--- "On the raw path a section gets a virtual mark in front."
+-- A section on the raw path.
 unfoldable pub rawStretch : RawPrepend → Bool → List ℕ → Section → List (Item Stretch)
 rawStretch prepend continuation text section =
     let bytes = bytesOf text section in stretch bytes (virtualMark prepend continuation (section .opening) bytes) true
 
--- "Then metaspace on each part".
+-- A part, after metaspace.
 unfoldable pub normalStretch : Model → NormalPart → List (Item Stretch)
 normalStretch m part = stretch (metaspaced (m .metaspace) (part .first) (part .bytes)) false false
 
--- "Otherwise: steps, then second-list tokens".
+-- Rule 7.7: a section after its steps, taken apart by the second list.
 unfoldable pub normalPartsOf : Model → List ℕ → Section → List (Item NormalPart)
 normalPartsOf m text section = normalParts (m .second) (section .opening) (stepped m (bytesOf text section))
 

@@ -20,11 +20,11 @@ cutsFrom step last (p ∷ places) =
     let later = cutsFrom step last places in
     cond (leb (last + step) p) here later
 
--- "Cut at the first safe place at least max(target, 1) bytes past the last cut."
+-- Rule 11.2: the places where the text is cut.
 unfoldable pub cuts : Model → List ℕ → ℕ → List ℕ
 cuts m text target = cutsFrom (max target 1) 0 (filter (isSafe m text) (below (length text)))
 
--- "The last range ends at the text's end." Of the empty text this is "the one range 0..0".
+-- From cut to cut; the empty text has the range 0..0.
 unfoldable pub ranges : Model → List ℕ → ℕ → List (ℕ × ℕ)
 ranges m text target = neighbours (0 ∷ cuts m text target ++ (length text ∷ []))
 

@@ -21,24 +21,24 @@ isUnguarded (raw.Present prepend.Unguarded) = true
 isUnguarded (raw.Present prepend.GuardedAlways) = false
 isUnguarded (raw.Present prepend.GuardedFirst) = false
 
--- "A first-list token that holds a space or byte 0xE2, or strips, or any token when Unguarded".
+-- Rule 11.4: the token blocks places.
 unfoldable pub blocks : Bool → Token → Bool
 blocks unguarded t =
     any (λ (b : ℕ). eqb b 0x20 || eqb b 0xE2) (t .content) || t .lstrip || t .rstrip || unguarded
 
--- "From the White_Space-trimmed length of text before s (lstrip) or s+1".
+-- Rule 11.5: where the block of an occurrence at s begins.
 unfoldable pub blockStart : List ℕ → Token → ℕ → ℕ
 blockStart text t s = cond (t .lstrip) (length (trimEnd (take s text))) (s + 1)
 
--- "To e plus following White_Space (rstrip), or e (Unguarded), or e-1".
+-- Rule 11.5: where the block of an occurrence that ends at e ends.
 unfoldable pub blockEnd : Bool → List ℕ → Token → ℕ → ℕ
 blockEnd unguarded text t e = cond (t .rstrip) (e + whiteLength (drop e text)) (cond unguarded e (e - 1))
 
--- The block of the occurrence at s; "both ends blocked".
+-- The block of the occurrence at s; its two ends belong to it.
 unfoldable pub block : Bool → List ℕ → Token → ℕ → Range
 block unguarded text t s = (blockStart text t s, blockEnd unguarded text t (s + length (t .content)))
 
--- "Each occurrence s..e, overlapping ones too": the place lies in the block of one.
+-- The place lies in the block of some occurrence, whether occurrences overlap or not.
 unfoldable pub blockedBy : Bool → List ℕ → ℕ → Token → Bool
 blockedBy unguarded text p t =
     blocks unguarded t
@@ -47,7 +47,6 @@ blockedBy unguarded text p t =
 unfoldable pub isBlocked : Model → List ℕ → ℕ → Bool
 isBlocked m text p = any (λ (row : ℕ). blockedBy (isUnguarded (rawPath m)) text p (tokenAt (m .first) row)) (below (length (contents (m .first))))
 
--- "The place is above 0, a mark or space starts there, doesn't extend a run (EveryMark: no such test), isn't spanned over the whole
--- text, and lies in no block."
+-- Rule 11.3: a mark or space would begin a unit here, if the text were one section, and no block has the place.
 unfoldable pub isSafe : Model → List ℕ → ℕ → Bool
 isSafe m text p = ltb 0 p && markCuts (kindOf m) (crossings (piecesOf m)) true text p && not (isBlocked m text p)

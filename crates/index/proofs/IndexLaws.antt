@@ -16,7 +16,8 @@ use Rattle.utf8.proofs.Places.{any-one, all-holds, getD-countFrom}
 use Rattle.utf8.proofs.Fronts.{front-within, front-passes, front-ended, front-past, getD-row, length-row}
 use Rattle.model.specs.Model.{Model, piece, lookupId, noId, piecesOf, mergeRows, rowOf}
 use Rattle.model.specs.Mark.{mark}
-use Rattle.model.specs.Search.{byteOrder, searched, pieceOrder, foundPiece, idAt, rowOrder, pairOrder, foundRow, rowFound}
+use Rattle.model.specs.ByteOrder.{byteOrder}
+use Rattle.model.specs.inner.Search.{searched, pieceOrder, foundPiece, idAt, rowOrder, pairOrder, foundRow, rowFound}
 use Rattle.model.specs.Check.{namesNoPiece, lookupAscends, rowsAscend, allBelow}
 use Rattle.model.specs.declared.Order.the-variants.{Less, Greater}
 use Rattle.model.proofs.OrderLaws.{by-below, by-numbers, or-less, or-greater, or-else, never, equal-is, same-is-equal, equal-strings, order-turned, turned}

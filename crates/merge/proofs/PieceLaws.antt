@@ -1,27 +1,28 @@
 -- Laws of the pieces that ids stand for, in an accepted model: merges keep the bytes that ids spell, the starting ids of a character
 -- that is not dropped spell it, and ids whose strings no piece reaches across merge apart or joined alike. Assumes nothing.
-use Prim.Native.Nat.{ℕ, zero, suc, _+_, _≤_, _<_}
+use Prim.Native.Nat.{ℕ, _<_}
 use native.Mathlib.Omega.{arith}
-use native.Mathlib.Nat.{not-suc-le-zero}
 use mathlib.Core.Path.{_≡_, refl, sym, ap, ap₂, _∙_, subst}
 use mathlib.Core.Bool.{Bool, true, false, not, cond, _&&_, _||_}
-use mathlib.Core.List.{List, [], _∷_, _++_, map, append-assoc, append-nil, map-append}
+use mathlib.Core.List.{List, [], _∷_, _++_, map, append-assoc, append-nil}
 use mathlib.Core.Option.{Option, none, some, Option·none-ne-some, Option·some-injective}
-use borrow.Author.Tests.{ltb-true, ltb-false, eqb-true, eqb-false, eq-eqb}
+use borrow.Author.Tests.{ltb-true, ltb-false, eqb-true, eq-eqb}
 use lib.Dec.{eqb, ltb}
 use lib.ListN.{length, getD, length-append, List·getD-eq-default}
 use Rattle.utf8.specs.Lists.{isEmpty, all, any, join, joinMap, numbered, zip, same}
-use Rattle.utf8.proofs.Tests.{either, clash, and-left, and-right, and-both, or-left, or-right}
+use Rattle.utf8.proofs.Tests.{clash, and-left, and-right, and-both, or-left, or-right}
 use Rattle.utf8.proofs.Lists.{join-append, all-append}
-use Rattle.utf8.proofs.Places.{all-holds, length-zip, getD-zip, length-numbered, getD-numbered, getD-inside}
+use Rattle.utf8.proofs.Places.{any-append, all-holds, length-zip, getD-zip, length-numbered, getD-numbered}
 use Rattle.utf8.proofs.Starts.{same-eq, not-empty}
+use Rattle.utf8.proofs.Elements.{all-join, all-one, map-one, not-empty-long}
 use Rattle.utf8.proofs.Joins.{find-some, joinMap-append, joinMap-join}
 use Rattle.model.specs.Model.{Model, Row, piece, piecesOf, lookupId, noId, fallbackId, rowsOf, rowOf, mergeRows}
 use Rattle.model.specs.Check.{fallbackFits, rowsJoin}
 use Rattle.model.proofs.RowLaws.{length-rows, row-is}
 use Rattle.model.proofs.Accepted.{Accepted}
+use Rattle.model.proofs.ReachLaws.{NoPieceOver, StringsApart}
 use Rattle.merge.specs.Merge.{Candidate, nextMerge, mergedAt, merged}
-use Rattle.merge.specs.Start.{Vocabulary, vocabularyOf, ifAny, isMissing, ownId, fallbackIds, startingIds, isDropped, lacksByte, startingIdsBy, isDroppedBy}
+use Rattle.merge.specs.Start.{vocabularyOf, ifAny, isMissing, ownId, fallbackIds, startingIds, isDropped, lacksByte, startingIdsBy, isDroppedBy}
 use Rattle.merge.proofs.NextLaws.{NoRow, next-found, merged-is}
 use Rattle.merge.proofs.MergedLaws.{Apart, by-merges, merged-none, merged-step, merged-apart}
 
@@ -33,39 +34,15 @@ spelling pieces ids = joinMap (piece pieces) ids
 abbrev pub hasBytes : List (List ℕ) → ℕ → Bool
 hasBytes pieces id = not (isEmpty (piece pieces id))
 
--- No piece is an end of the one string followed by a beginning of the other.
-abbrev pub NoPieceOver : List (List ℕ) → List ℕ → List ℕ → Type 0
-NoPieceOver pieces s t =
-    (front p q back : List ℕ) → 0 < length p → 0 < length q → s ≡ front ++ p → t ≡ q ++ back → (id : ℕ) → piece pieces id ≡ p ++ q → ⊥
-
--- No piece reaches over a border of the strings.
-abbrev pub StringsApart : List (List ℕ) → List (List ℕ) → Type 0
-StringsApart pieces [] = Unit {0}
-StringsApart pieces (s ∷ strings) = NoPieceOver pieces s (join strings) × StringsApart pieces strings
-
-not-empty-long : (l : List ℕ) → not (isEmpty l) ≡ true → 0 < length l
-not-empty-long [] e = clash refl e
-not-empty-long (x ∷ l) e = omega arith
-
 some-bytes : (pieces : List (List ℕ)) (id : ℕ) → hasBytes pieces id ≡ true → 0 < length (piece pieces id)
 some-bytes pieces id e = not-empty-long (piece pieces id) e
 
 bytes-some : (pieces : List (List ℕ)) (id : ℕ) → 0 < length (piece pieces id) → hasBytes pieces id ≡ true
 bytes-some pieces id h = ap not (not-empty (piece pieces id) h)
 
-all-join : (test : ℕ → Bool) (xss : List (List ℕ)) → all (all test) xss ≡ all test (join xss)
-all-join test [] = refl
-all-join test (xs ∷ xss) = ap (λ (b : Bool). all test xs && b) (all-join test xss) ∙ sym (all-append test xs (join xss))
-
--- One list of a row put in the place of another.
-map-one : (f : List ℕ → List ℕ) (before after : List (List ℕ)) (x y : List ℕ) → f x ≡ f y → map f (before ++ x ∷ after) ≡ map f (before ++ y ∷ after)
-map-one f [] after x y e = ap (λ (l : List ℕ). l ∷ map f after) e
-map-one f (b ∷ before) after x y e = ap {B = List (List ℕ)} (λ l. f b ∷ l) (map-one f before after x y e)
-
-all-one : (test : List ℕ → Bool) (before after : List (List ℕ)) (x y : List ℕ) → (test x ≡ true → test y ≡ true) → all test (before ++ x ∷ after) ≡ true → all test (before ++ y ∷ after) ≡ true
-all-one test [] after x y f e = and-both (f (and-left (test x) (all test after) e)) (and-right (test x) (all test after) e)
-all-one test (b ∷ before) after x y f e =
-    and-both (and-left (test b) (all test (before ++ x ∷ after)) e) (all-one test before after x y f (and-right (test b) (all test (before ++ x ∷ after)) e))
+join-join : (units : List (List (List ℕ))) → join (map join units) ≡ join (join units)
+join-join [] = refl
+join-join (unit ∷ units) = ap (λ (l : List ℕ). join unit ++ l) (join-join units) ∙ sym (join-append unit (join units))
 
 noRow : Row
 noRow = record { left = 0; right = 0; result = 0; rank = 0 }
@@ -262,3 +239,42 @@ module _ (m : Model) (ok : Accepted m) where
       spells-append c (join chars) (startingIds (vocabularyOf m) c) (joinMap (startingIds (vocabularyOf m)) chars)
       (start-spells c (not-empty-long c (and-left (not (isEmpty c)) (all (λ (c : List ℕ). not (isEmpty c)) chars) h)) (or-left (isDropped (vocabularyOf m) c) (any (isDropped (vocabularyOf m)) chars) e))
       (starts-spell chars (and-right (not (isEmpty c)) (all (λ (c : List ℕ). not (isEmpty c)) chars) h) (or-right (isDropped (vocabularyOf m) c) (any (isDropped (vocabularyOf m)) chars) e))
+
+  -- ---- units as their characters
+
+  record Spelt (units : List (List (List ℕ))) : Type 0 where
+    strings : map (spelling (piecesOf m)) (map (joinMap (startingIds (vocabularyOf m))) units) ≡ map join units
+    bytes : all (all (hasBytes (piecesOf m))) (map (joinMap (startingIds (vocabularyOf m))) units) ≡ true
+
+  spelt : (units : List (List (List ℕ))) → all (all (λ (c : List ℕ). not (isEmpty c))) units ≡ true → any (isDropped (vocabularyOf m)) (join units) ≡ false → Spelt units
+  spelt [] h e = record { strings = refl; bytes = refl }
+  spelt (unit ∷ units) h e =
+      let some = all (λ (c : List ℕ). not (isEmpty c)) in
+      let dropped = any (isDropped (vocabularyOf m)) in
+      let parts : (dropped unit || dropped (join units)) ≡ false = sym (any-append (isDropped (vocabularyOf m)) unit (join units)) ∙ e in
+      let here = starts-spell unit (and-left (some unit) (all some units) h) (or-left (dropped unit) (dropped (join units)) parts) in
+      let there = spelt units (and-right (some unit) (all some units) h) (or-right (dropped unit) (dropped (join units)) parts) in
+      record { strings = ap₂ {C = List (List ℕ)} _∷_ (here .spelled) (there .strings); bytes = and-both (here .bytes) (there .bytes) }
+
+  each : (starts : List (List ℕ)) → map (spelling (piecesOf m)) (map (merged (rowOf (mergeRows m))) starts) ≡ map (spelling (piecesOf m)) starts
+  each [] = refl
+  each (ids ∷ starts) = ap₂ {C = List (List ℕ)} _∷_ (merged-spells ids) (each starts)
+
+  -- Units no character of which is dropped, over whose borders no piece reaches.
+  module _ (units : List (List (List ℕ))) (some : all (all (λ (c : List ℕ). not (isEmpty c))) units ≡ true) (undropped : any (isDropped (vocabularyOf m)) (join units) ≡ false) where
+    -- Merging them apart gives what merging all their starting ids gives.
+    pub chars-merge : StringsApart (piecesOf m) (map join units)
+        → merged (rowOf (mergeRows m)) (joinMap (startingIds (vocabularyOf m)) (join units)) ≡ join (map (merged (rowOf (mergeRows m))) (map (joinMap (startingIds (vocabularyOf m))) units))
+    chars-merge apart =
+        let s = spelt units some undropped in
+        ap (merged (rowOf (mergeRows m))) (sym (joinMap-join (startingIds (vocabularyOf m)) units))
+        ∙ units-merge (map (joinMap (startingIds (vocabularyOf m))) units) (record { apart = subst (StringsApart (piecesOf m)) (sym (s .strings)) apart; bytes = s .bytes })
+
+    -- The merged ids of all spell their characters.
+    pub chars-spell : spelling (piecesOf m) (join (map (merged (rowOf (mergeRows m))) (map (joinMap (startingIds (vocabularyOf m))) units))) ≡ join (join units)
+    chars-spell =
+        let s = spelt units some undropped in
+        let starts = map (joinMap (startingIds (vocabularyOf m))) units in
+        sym (joinMap-join (piece (piecesOf m)) (map (merged (rowOf (mergeRows m))) starts))
+        ∙ ap join (each starts ∙ s .strings)
+        ∙ join-join units

@@ -17,7 +17,7 @@ use Rattle.utf8.proofs.Places.{any-next, any-found, getD-inside}
 use Rattle.model.specs.declared.Found.{Found}
 use Rattle.model.specs.declared.Found.the-variants.{At, Nothing}
 use Rattle.model.specs.Model.{strings, noId, fallbackId}
-use Rattle.model.specs.Search.{searched, pieceOrder, entryAt, idAt, foundId}
+use Rattle.model.specs.inner.Search.{searched, pieceOrder, entryAt, idAt, foundId}
 use Rattle.model.specs.Mark.{mark}
 use Rattle.index.specs.inner.Find.{keyStart, keyEnd, idFrom}
 use Rattle.index.specs.inner.Find as indexed

@@ -1,4 +1,4 @@
--- "Merge a unit: the row of lowest rank among adjacent pairs, leftmost of equals, until none."
+-- The merge of a unit (rule 10.1).
 -- The rows are given as any function from a pair of ids to its row.
 use Prim.Native.Nat.{ℕ, zero, suc, _+_}
 use mathlib.Core.Bool.{cond}

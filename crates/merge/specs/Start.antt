@@ -26,11 +26,11 @@ pub record Vocabulary : Type 0 where
 unfoldable pub vocabularyOf : Model → Vocabulary
 vocabularyOf m = record { pieces = piecesOf m; lookup = m .lookup; fallback = m .fallback }
 
--- "A character's piece by lookup".
+-- Rule 9.2: the id of the piece that spells the character.
 unfoldable pub ownId : Vocabulary → List ℕ → Option ℕ
 ownId v char = lookupId (v .pieces) (v .lookup) char
 
--- "The fallback ids its bytes have".
+-- Rule 9.3: the fallback ids of those bytes that have one.
 unfoldable pub fallbackIds : List ℕ → List ℕ → List ℕ
 fallbackIds fallback char = joinMap (λ (b : ℕ). ifAny (fallbackId fallback b)) char
 
@@ -38,22 +38,21 @@ fallbackIds fallback char = joinMap (λ (b : ℕ). ifAny (fallbackId fallback b)
 unfoldable pub lacksByte : List ℕ → List ℕ → Bool
 lacksByte fallback char = any (λ (b : ℕ). isMissing (fallbackId fallback b)) char
 
--- "A character's piece by lookup; else the fallback ids its bytes have".
--- The id of a character's piece is given by any function.
+-- The ids that a character starts as; own gives a character's own id.
 unfoldable pub startingIdsBy : (List ℕ → Option ℕ) → List ℕ → List ℕ → List ℕ
 startingIdsBy own fallback char = cond (isMissing (own char)) (fallbackIds fallback char) (ifAny (own char))
 
 unfoldable pub startingIds : Vocabulary → List ℕ → List ℕ
 startingIds v char = startingIdsBy (ownId v) (v .fallback) char
 
--- "A character or virtual mark not spelled whole is dropped": it has no piece, and some byte of it no fallback id.
+-- Rule 9.4: the character has no piece, and some byte of it no fallback id.
 unfoldable pub isDroppedBy : (List ℕ → Option ℕ) → List ℕ → List ℕ → Bool
 isDroppedBy own fallback char = isMissing (own char) && lacksByte fallback char
 
 unfoldable pub isDropped : Vocabulary → List ℕ → Bool
 isDropped v char = isDroppedBy (ownId v) (v .fallback) char
 
--- "A raw space as U+2581."
+-- A space that is read raw is spelled as the mark.
 unfoldable pub asMark : Bool → List ℕ → List ℕ
 asMark raw char = cond (raw && same char space) mark char
 
@@ -61,7 +60,7 @@ asMark raw char = cond (raw && same char space) mark char
 unfoldable pub unitChars : Bool → List ℕ → List (List ℕ)
 unitChars raw unit = map (asMark raw) (chars unit)
 
--- "A virtual mark belongs to the first unit", and is spelled as U+2581.
+-- Rule 9.1: a virtual mark comes first in the first unit.
 unfoldable pub withVirtualMark : Bool → List (List (List ℕ)) → List (List (List ℕ))
 withVirtualMark virtual [] = []
 withVirtualMark virtual (unit ∷ units) = cond virtual (mark ∷ unit) unit ∷ units

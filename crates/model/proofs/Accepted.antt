@@ -5,9 +5,9 @@ use mathlib.Core.List.{List, [], _∷_}
 use Prim.Native.Nat.{ℕ, _-_, _≤_, _<_}
 use native.Mathlib.Nat.{suc-ne-zero}
 use native.Mathlib.Omega.{arith}
-use borrow.Author.Tests.{ltb-false, eqb-true, eqb-false, not-false}
+use borrow.Author.Tests.{ltb-false, eqb-true, eqb-false, ne-eqb, not-false}
 use lib.Dec.{ltb, eqb}
-use lib.ListN.{length}
+use lib.ListN.{length, drop}
 use Rattle.utf8.specs.Lists.{isEmpty, all, any, numbered}
 use Rattle.utf8.proofs.Tests.{or-left, or-right, and-left, and-right}
 use Rattle.utf8.proofs.Places.{empty-by-length}
@@ -18,49 +18,33 @@ use Rattle.model.specs.Check.{stringTooLong, wrongPieceSizes, wrongRowSi
 
 -- ---- the answer, by the first test that applies
 
+-- The tests that decide the check's number.
+pub record DecidedBy (tests : List (ℕ × Bool)) (m : Model) : Type 0 where
+  pub number : checkNumber m ≡ lowest tests
+
+-- The tests behind the first k decide.
+abbrev pub Undecided : ℕ → Model → Type 0
+Undecided k m = DecidedBy (drop k (modelTests m 0)) m
+
+module _ {k : ℕ} {b : Bool} {tests : List (ℕ × Bool)} {m : Model} (decided : DecidedBy ((k, b) ∷ tests) m) where
+  pub others-decide : b ≡ false → DecidedBy tests m
+  others-decide f = record { number = decided .number ∙ rw f }
+
+  pub first-decides : b ≡ true → checkNumber m ≡ k
+  first-decides t = decided .number ∙ rw t
+
 module _ (m : Model) where
-  pub refuses-1 : wrongSizes m ≡ true → checkOutcome m ≡ refused 1 0
-  unfolding checkOutcome checkNumber modelTests
-  refuses-1 t = rw t
+  pub nothing-decided : Undecided 0 m
+  unfolding checkNumber
+  nothing-decided = record { number = refl }
 
-  module _ (f1 : wrongSizes m ≡ false) where
-    pub refuses-2 : offsetsAstray m ≡ true → checkOutcome m ≡ refused 2 0
-    unfolding checkOutcome checkNumber modelTests textTooLong
-    refuses-2 t = rw (f1, t)
+  pub refuses : (number : ℕ) → 0 < number → checkNumber m ≡ number → checkOutcome m ≡ refused number 0
+  unfolding checkOutcome
+  refuses number h e = rw (e, ne-eqb number 0 (λ z. omega arith))
 
-    module _ (f2 : offsetsAstray m ≡ false) where
-      pub refuses-3 : badPiece (piecesOf m) ≡ true → checkOutcome m ≡ refused 3 0
-      unfolding checkOutcome checkNumber modelTests textTooLong
-      refuses-3 t = rw (f1, f2, t)
-
-      module _ (f3 : badPiece (piecesOf m) ≡ false) where
-        pub refuses-4 : badLookup (piecesOf m) (m .lookup) ≡ true → checkOutcome m ≡ refused 4 0
-        unfolding checkOutcome checkNumber modelTests textTooLong
-        refuses-4 t = rw (f1, f2, f3, t)
-
-        module _ (f4 : badLookup (piecesOf m) (m .lookup) ≡ false) where
-          pub refuses-5 : badFallback (piecesOf m) (m .fallback) ≡ true → checkOutcome m ≡ refused 5 0
-          unfolding checkOutcome checkNumber modelTests textTooLong
-          refuses-5 t = rw (f1, f2, f3, f4, t)
-
-          module _ (f5 : badFallback (piecesOf m) (m .fallback) ≡ false) where
-            pub refuses-6 : badRow (piecesOf m) (m .left) (m .right) (m .result) ≡ true → checkOutcome m ≡ refused 6 0
-            unfolding checkOutcome checkNumber modelTests textTooLong
-            refuses-6 t = rw (f1, f2, f3, f4, f5, t)
-
-            module _ (f6 : badRow (piecesOf m) (m .left) (m .right) (m .result) ≡ false) where
-              pub refuses-7 : (badToken (contents (m .first)) || badToken (contents (m .second))) ≡ true → checkOutcome m ≡ refused 7 0
-              unfolding checkOutcome checkNumber modelTests textTooLong
-              refuses-7 t = rw (f1, f2, f3, f4, f5, f6, t)
-
-              module _ (f7 : (badToken (contents (m .first)) || badToken (contents (m .second))) ≡ false) where
-                pub refuses-8 : badStep (m .stepBytes) (stepsOf m) ≡ true → checkOutcome m ≡ refused 8 0
-                unfolding checkOutcome checkNumber modelTests textTooLong
-                refuses-8 t = rw (f1, f2, f3, f4, f5, f6, f7, t)
-
-                pub accepts : badStep (m .stepBytes) (stepsOf m) ≡ false → checkOutcome m ≡ done 0 0 0
-                unfolding checkOutcome checkNumber modelTests textTooLong
-                accepts f8 = rw (f1, f2, f3, f4, f5, f6, f7, f8)
+  pub accepts : checkNumber m ≡ 0 → checkOutcome m ≡ done 0 0 0
+  unfolding checkOutcome
+  accepts e = rw e
 
 -- ---- what fine sizes say of each table
 

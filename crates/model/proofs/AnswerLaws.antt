@@ -1,5 +1,5 @@
 -- Laws of the lowest number that applies.
-use mathlib.Core.Path.{_≡_, refl, sym}
+use mathlib.Core.Path.{_≡_, refl, sym, ap, _∙_}
 use mathlib.Core.Bool.{Bool, true, false}
 use mathlib.Core.List.{List, [], _∷_, _++_}
 use Prim.Native.Nat.{ℕ, _≤_, _<_, zero-le}
@@ -8,6 +8,7 @@ use borrow.Author.Tests.{ltb-true, leb-true, eqb-true, ne-eqb}
 use lib.Dec.{eqb, leb, ltb}
 use Rattle.utf8.specs.Lists.{all}
 use Rattle.utf8.proofs.Tests.{and-left, and-right}
+use Rattle.model.specs.declared.Answer.{Answer}
 use Rattle.model.specs.Model.{Model}
 use Rattle.model.specs.Answers.{lowest, refused}
 use Rattle.model.specs.Check.{wrongSizes, textTooLong, modelTests, checkNumber, checkOutcome}
@@ -80,3 +81,7 @@ module _ (m : Model) where
   pub check-refuses : (checkNumber m ≡ 0 → ⊥) → checkOutcome m ≡ refused (checkNumber m) 0
   unfolding checkOutcome
   check-refuses h = rw (ne-eqb (checkNumber m) 0 h)
+
+  -- The same of an answer that is the check's.
+  pub number-checked : (checked : Answer) → checked ≡ checkOutcome m → checked .number ≡ checkNumber m
+  number-checked checked e = ap (λ (a : Answer). a .number) e ∙ check-number

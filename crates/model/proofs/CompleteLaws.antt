@@ -13,8 +13,9 @@ use Rattle.utf8.proofs.Places.{any-one, any-none}
 use Rattle.utf8.proofs.Counts.{count-most, count-fewer, count-same, count-within}
 use Rattle.model.specs.declared.Order.the-variants.{Less}
 use Rattle.model.specs.Model.{piece}
-use Rattle.model.specs.Search.{byteOrder, isBefore}
-use Rattle.model.specs.Check.{namesNoPiece, lookupAscends, isListed, isLong, longMissing}
+use Rattle.model.specs.ByteOrder.{byteOrder, isBefore}
+use Rattle.model.specs.Check.{namesNoPiece, lookupAscends, isListed}
+use Rattle.model.specs.inner.Tests.{isLong, longMissing}
 use Rattle.model.proofs.OrderLaws.{isEqual, same-is-equal, less-is, order-self, order-trans, turned, order-turned}
 use Rattle.model.proofs.CheckLaws.{has-id}
 

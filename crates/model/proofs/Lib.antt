@@ -7,3 +7,5 @@ pub mod SearchLaws
 pub mod StringLaws
 pub mod Accepted
 pub mod AnswerLaws
+pub mod ReachLaws
+pub mod ClearLaws

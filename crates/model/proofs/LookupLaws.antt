@@ -12,7 +12,8 @@ use Rattle.utf8.proofs.Places.{any-found, any-next, any-ended, all-pair-next, a
 use Rattle.model.specs.declared.Order.the-variants.{Less}
 use Rattle.model.specs.declared.Found.{Found}
 use Rattle.model.specs.Model.{piece, lookupId}
-use Rattle.model.specs.Search.{byteOrder, isBefore, pieceOrder, foundPiece, idAt, isAt}
+use Rattle.model.specs.ByteOrder.{byteOrder, isBefore}
+use Rattle.model.specs.inner.Search.{pieceOrder, foundPiece, idAt, isAt}
 use Rattle.model.specs.Check.{namesNoPiece, lookupAscends, isListed, pieceMissing}
 use Rattle.model.proofs.OrderLaws.{same-is-equal, less-is, keys-ascend}
 use Rattle.model.proofs.SearchLaws.{Falls, entry-found, found-any, keys-fall}

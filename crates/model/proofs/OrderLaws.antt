@@ -15,7 +15,8 @@ use Rattle.utf8.specs.Lists.{same}
 use Rattle.utf8.proofs.Tests.{either, clash}
 use Rattle.model.specs.declared.Order.{Order}
 use Rattle.model.specs.declared.Order.the-variants.{Less, Equal, Greater}
-use Rattle.model.specs.Search.{orderOr, byteOrder, isLess, pairOrder}
+use Rattle.model.specs.ByteOrder.{orderOr, byteOrder, isLess}
+use Rattle.model.specs.inner.Search.{pairOrder}
 
 module _ (xs ys : List ℕ) (i : ℕ) where
   -- where neither has ended, the bytes at the place decide, or else what follows

@@ -13,7 +13,8 @@ use Rattle.utf8.proofs.Places.{length-zip, getD-zip, getD-inside, length-countF
 use Rattle.model.specs.declared.Order.{Order}
 use Rattle.model.specs.declared.Order.the-variants.{Less, Equal}
 use Rattle.model.specs.Model.{strings, piece, Row, rowsOf, rowOf}
-use Rattle.model.specs.Search.{orderOr, byteOrder, isLess, pairOrder, rowOrder, foundRow, rowFound}
+use Rattle.model.specs.ByteOrder.{orderOr, byteOrder, isLess}
+use Rattle.model.specs.inner.Search.{pairOrder, rowOrder, foundRow, rowFound}
 use Rattle.model.specs.Check.{pairBefore, rowsAscend, allBelow, rowsJoin}
 use Rattle.model.proofs.OrderLaws.{by-below, by-numbers, or-less, or-greater, or-else, isEqual, equal-or, less-is, never, keys-ascend, twoOf}
 use Rattle.model.proofs.SearchLaws.{Falls, entry-found, keys-fall}

@@ -15,7 +15,8 @@ use Rattle.model.specs.declared.Order.{Order}
 use Rattle.model.specs.declared.Order.the-variants.{Less, Equal, Greater}
 use Rattle.model.specs.declared.Found.{Found}
 use Rattle.model.specs.declared.Found.the-variants.{At, Nothing}
-use Rattle.model.specs.Search.{byteOrder, searchOn, searchFor, searched, entryAt, isAt}
+use Rattle.model.specs.ByteOrder.{byteOrder}
+use Rattle.model.specs.inner.Search.{searchOn, searchFor, searched, entryAt, isAt}
 use Rattle.model.proofs.OrderLaws.{isEqual, equal-is, never, unequal, by-below, by-numbers, turned, order-turned, equal-strings, keys-ascend}
 
 -- two searches that agree where the test holds

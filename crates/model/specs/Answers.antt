@@ -7,7 +7,7 @@ use lib.ListN.{length, replicate}
 use Rattle.utf8.specs.Chars.{longestValidPrefix}
 use Rattle.model.specs.declared.Answer.{Answer}
 
--- "The lowest number that applies is given": of tests in the order of their numbers, the first that applies; 0 if none does.
+-- Rule 3.1: of tests in the order of their numbers, the first that applies; 0 if none does.
 abbrev pub lowest : List (ℕ × Bool) → ℕ
 lowest [] = 0
 lowest (test ∷ tests) = let others = lowest tests in cond (test .1) (test .0) others
@@ -15,22 +15,22 @@ lowest (test ∷ tests) = let others = lowest tests in cond (test .1) (test .0) 
 abbrev pub done : ℕ → ℕ → ℕ → Answer
 done written drops skips = record { number = 0; place = 0; written = written; drops = drops; skips = skips }
 
--- "A refusal has the last three 0."
+-- Rule 3.8: a refusal counts nothing.
 abbrev pub refused : ℕ → ℕ → Answer
 refused number place = record { number = number; place = place; written = 0; drops = 0; skips = 0 }
 
--- "For 9 the place is the length of the longest valid prefix; otherwise 0."
+-- Rule 3.7: only a 9 has a place.
 unfoldable pub placeOf : ℕ → List ℕ → ℕ
 placeOf number text = cond (eqb number 9) (length (longestValidPrefix text)) 0
 
 abbrev pub zeros : ℕ → List ℕ
 zeros n = replicate n 0
 
--- "After 0 the result is followed by zeros to the buffer's end."
+-- Rule 3.9: the result, and zeros behind it.
 unfoldable pub filled : List ℕ → List ℕ → List ℕ
 filled result out = result ++ zeros (length out - length result)
 
--- "Scratch is all zeros after 0, 11 and 12, unchanged after the rest."
+-- Rule 3.10: what a call leaves in a scratch buffer.
 unfoldable pub scratchAfter : ℕ → List ℕ → List ℕ
 scratchAfter number scratch = cond (eqb number 0 || eqb number 11 || eqb number 12) (zeros (length scratch)) scratch
 
@@ -46,7 +46,7 @@ pub record ScratchOutcome : Type 0 where
   pub scratchA : List ℕ
   pub scratchB : List ℕ
 
--- The outcome of a call whose number is known: the result where it was accepted, "the result buffer unchanged" where not.
+-- The outcome of a call whose number is known: the result where it was accepted, the buffer as it was where not.
 unfoldable pub outcome : ℕ → ℕ → Answer → List ℕ → List ℕ → Outcome
 outcome number place accepted result out =
     cond (eqb number 0) (record { answer = accepted; out = filled result out }) (record { answer = refused number place; out = out })

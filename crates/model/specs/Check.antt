@@ -10,37 +10,37 @@ use Rattle.model.specs.declared.Span.{Span}
 use Rattle.model.specs.declared.Step.{Step}
 use Rattle.model.specs.declared.Answer.{Answer}
 use Rattle.model.specs.Model.{Model, TokenList, piece, noId, contents, stepString, spansOf, piecesOf, stepsOf}
-use Rattle.model.specs.Search.{isBefore}
+use Rattle.model.specs.ByteOrder.{isBefore}
 use Rattle.model.specs.Answers.{lowest, done, refused}
 
 -- The strings of all steps.
 unfoldable pub stepSpans : List Step → List Span
 stepSpans steps = joinMap spansOf steps
 
--- 1: "a size above is exceeded, a table's columns differ in length, or the fallback ids aren't 256"
+-- Answer 1: sizes, columns and the number of fallback ids (rules 2.3 and 3.2).
 
--- "255 bytes for a piece, a token's content" by its offsets; "an offset pair that falls has no length".
+-- How far two offsets rise is the length of their string; where they fall it has none.
 unfoldable pub pairTooLong : ℕ × ℕ → Bool
 pairTooLong p = ltb 255 (p .1 - p .0)
 
 unfoldable pub stringTooLong : List ℕ → Bool
 stringTooLong offsets = any pairTooLong (neighbours offsets)
 
--- "255 bytes for .. a step's string".
+-- The same limit for a string of a step.
 unfoldable pub spanTooLong : Span → Bool
 spanTooLong span = ltb 255 (span .len)
 
--- "524,288 pieces, 8,388,608 piece bytes"; "an empty offset row answers 1".
+-- The pieces: an offset row that is empty, too many of them, too many bytes, one that is too long.
 unfoldable pub wrongPieceSizes : List ℕ → List ℕ → Bool
 wrongPieceSizes bytes offsets =
     isEmpty offsets || ltb 524288 (length offsets - 1) || ltb 8388608 (length bytes) || stringTooLong offsets
 
--- "1,048,576 merge rows", and columns that differ in length.
+-- The merge rows: too many, or columns that differ in length.
 unfoldable pub wrongRowSizes : List ℕ → List ℕ → List ℕ → List ℕ → Bool
 wrongRowSizes left right result rank =
     ltb 1048576 (length left) || not (all (eqb (length left)) (length right ∷ length result ∷ length rank ∷ []))
 
--- "8,192 added tokens in each of the two lists", an empty offset row, and columns that differ in length.
+-- A list of tokens: an offset row that is empty, too many tokens, one that is too long, or columns that differ in length.
 unfoldable pub wrongTokenSizes : List ℕ → List ℕ → List Bool → List Bool → Bool
 wrongTokenSizes offsets ids lstrip rstrip =
     isEmpty offsets
@@ -51,7 +51,7 @@ wrongTokenSizes offsets ids lstrip rstrip =
 unfoldable pub wrongListSizes : TokenList → Bool
 wrongListSizes t = wrongTokenSizes (t .offsets) (t .ids) (t .lstrip) (t .rstrip)
 
--- "16 steps"
+-- The steps: too many, or a string that is too long.
 unfoldable pub wrongStepSizes : List Step → ℕ → Bool
 wrongStepSizes steps stepCount = ltb 16 stepCount || any spanTooLong (stepSpans steps)
 
@@ -64,16 +64,16 @@ wrongSizes m =
     || wrongListSizes (m .second)
     || wrongStepSizes (stepsOf m) (m .stepCount)
 
--- "Text 1,048,576 bytes or ids", which is part of 1 for the calls that have a text or ids.
+-- The size of a text or of a list of ids, which is part of 1 for the calls that have one.
 unfoldable pub textTooLong : ℕ → Bool
 textTooLong size = ltb 1048576 size
 
--- 2: "offsets of pieces, tokens or step strings don't run in order inside their bytes"
+-- Answer 2: offsets, and the strings of steps (rules 2.2 and 2.8).
 
 unfoldable pub pairRises : ℕ × ℕ → Bool
 pairRises p = leb (p .0) (p .1)
 
--- Offsets "run from 0 to the total".
+-- Offsets begin at 0, never fall, and end at the length of the bytes.
 unfoldable pub runInOrder : List ℕ → List ℕ → Bool
 runInOrder bytes offsets =
     eqb (getD offsets 0 0) 0 && all pairRises (neighbours offsets) && eqb (lastOr 0 offsets) (length bytes)
@@ -88,51 +88,43 @@ offsetsAstray m =
     || not (runInOrder (m .second .bytes) (m .second .offsets))
     || any (liesOutside (m .stepBytes)) (stepSpans (stepsOf m))
 
--- 3: "a piece is neither valid UTF-8 nor exactly one byte"
+-- Answer 3: a piece is valid or one byte.
 unfoldable pub neitherTextNorByte : List ℕ → Bool
 neitherTextNorByte bytes = not (valid bytes) && not (eqb (length bytes) 1)
 
 unfoldable pub badPiece : List (List ℕ) → Bool
 badPiece pieces = any neitherTextNorByte pieces
 
--- 4: "the lookup list breaks its rule"
+-- Answer 4: the lookup list (rule 2.4).
 
--- "And nothing else": an entry that is no id, or the id of an empty piece.
+-- An entry that is no id, or the id of an empty piece.
 unfoldable pub namesNoPiece : List (List ℕ) → ℕ → Bool
 namesNoPiece pieces id = leb (length pieces) id || isEmpty (piece pieces id)
 
--- "In strictly ascending byte order of their pieces", and so each "once".
+-- Each entry's piece stands before the next one's, so no piece is listed twice.
 unfoldable pub lookupAscends : List (List ℕ) → List ℕ → Bool
 lookupAscends pieces lookup = all (λ (p : ℕ × ℕ). isBefore (piece pieces (p .0)) (piece pieces (p .1))) (neighbours lookup)
 
 unfoldable pub isListed : List (List ℕ) → List ℕ → List ℕ → Bool
 isListed pieces lookup bytes = any (λ (id : ℕ). same (piece pieces id) bytes) lookup
 
--- "Every distinct non-empty piece".
+-- Some piece that is not empty is spelled by no entry.
 unfoldable pub pieceMissing : List (List ℕ) → List ℕ → Bool
 pieceMissing pieces lookup = any (λ (bytes : List ℕ). not (isEmpty bytes) && not (isListed pieces lookup bytes)) pieces
 
 unfoldable pub badLookup : List (List ℕ) → List ℕ → Bool
 badLookup pieces lookup = any (namesNoPiece pieces) lookup || not (lookupAscends pieces lookup) || pieceMissing pieces lookup
 
--- No sentence of document 01: the part of `pieceMissing` that is about pieces of two bytes or more. That it is false can be told by
--- counting.
-unfoldable pub isLong : List ℕ → Bool
-isLong bytes = ltb 1 (length bytes)
-
-unfoldable pub longMissing : List (List ℕ) → List ℕ → Bool
-longMissing pieces lookup = any (λ (bytes : List ℕ). isLong bytes && not (isListed pieces lookup bytes)) pieces
-
--- 5, of a byte and its entry: "a fallback id other than none is not below the piece count, or its piece is not that one byte"
+-- Answer 5: a byte's entry is none, or the id of the piece that is this byte alone (rule 2.5).
 unfoldable pub fallbackFits : List (List ℕ) → ℕ × ℕ → Bool
 fallbackFits pieces entry = eqb (entry .1) noId || ltb (entry .1) (length pieces) && same (piece pieces (entry .1)) (entry .0 ∷ [])
 
 unfoldable pub badFallback : List (List ℕ) → List ℕ → Bool
 badFallback pieces fallback = not (all (fallbackFits pieces) (numbered fallback))
 
--- 6: "a merge row is out of order, names an id not below the piece count, or its result's piece isn't left joined to right"
+-- Answer 6: the merge rows (rule 2.6).
 
--- "Strictly ascending by (left, right)".
+-- The order of pairs: by left, then by right.
 unfoldable pub pairBefore : ℕ × ℕ → ℕ × ℕ → Bool
 pairBefore p q = ltb (p .0) (q .0) || eqb (p .0) (q .0) && ltb (p .1) (q .1)
 
@@ -143,7 +135,7 @@ rowsAscend left right = all (λ (n : (ℕ × ℕ) × (ℕ × ℕ)). pairBefore (
 unfoldable pub allBelow : ℕ → List ℕ → Bool
 allBelow pieceCount ids = all (λ (id : ℕ). ltb id pieceCount) ids
 
--- Each result's piece is left joined to right.
+-- Each result is its two sides joined.
 unfoldable pub rowsJoin : List (List ℕ) → List ℕ → List ℕ → List ℕ → Bool
 rowsJoin pieces left right result =
     all (λ (row : (ℕ × ℕ) × ℕ). same (piece pieces (row .1)) (piece pieces (row .0 .0) ++ piece pieces (row .0 .1))) (zip (zip left right) result)
@@ -154,26 +146,21 @@ badRow pieces left right result =
     || not (allBelow (length pieces) left && allBelow (length pieces) right && allBelow (length pieces) result)
     || not (rowsJoin pieces left right result)
 
--- 7: "an added token's content is empty or not valid UTF-8"
+-- Answer 7: the contents of tokens (rule 2.7).
 unfoldable pub emptyOrNoText : List ℕ → Bool
 emptyOrNoText bytes = isEmpty bytes || not (valid bytes)
 
 unfoldable pub badToken : List (List ℕ) → Bool
 badToken contents = any emptyOrNoText contents
 
--- 8: "a step's string is not valid UTF-8"
+-- Answer 8: the strings of steps.
 unfoldable pub noText : List ℕ → Span → Bool
 noText bytes span = not (valid (stepString bytes span))
 
 unfoldable pub badStep : List ℕ → List Step → Bool
 badStep bytes steps = any (noText bytes) (stepSpans steps)
 
--- What the tests 1, 2 and 8 ask of a step's string.
-unfoldable pub spanFails : ℕ → List ℕ → Span → Bool
-spanFails number bytes span =
-    cond (eqb number 1) (spanTooLong span) (cond (eqb number 2) (liesOutside bytes span) (noText bytes span))
-
--- "Every call tests 1 to 8 on the whole model"; size is that of the call's text or ids.
+-- The tests that all calls share (rule 3.2); size is that of the call's text or ids.
 unfoldable pub modelTests : Model → ℕ → List (ℕ × Bool)
 modelTests m size =
     (1, wrongSizes m || textTooLong size)

@@ -1,5 +1,6 @@
 pub mod Model
 pub mod Mark
 pub mod Answers
-pub mod Search
+pub mod ByteOrder
 pub mod Check
+pub mod inner

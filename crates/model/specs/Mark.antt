@@ -5,7 +5,7 @@ use mathlib.Core.List.{List, [], _∷_}
 use lib.Dec.{ltb}
 use Rattle.utf8.specs.Lists.{startsWith, endsWith}
 
--- "The mark U+2581 (E2 96 81)".
+-- U+2581 (rule 1.6).
 unfoldable pub mark : List ℕ
 mark = 0xE2 ∷ 0x96 ∷ 0x81 ∷ []
 
@@ -13,7 +13,7 @@ mark = 0xE2 ∷ 0x96 ∷ 0x81 ∷ []
 unfoldable pub space : List ℕ
 space = 0x20 ∷ []
 
--- "A mark is U+2581, or on the raw path also a space": the width of the mark at the head, 0 where none stands there.
+-- The width of the mark at the head, 0 where none stands there; a space is one where spaces are read raw.
 unfoldable pub markWidth : Bool → List ℕ → ℕ
 markWidth raw bytes = cond (startsWith mark bytes) 3 (cond (raw && startsWith space bytes) 1 0)
 

@@ -13,8 +13,7 @@ use Rattle.model.specs.declared.Step.{Step}
 use Rattle.model.specs.declared.Step.the-variants.{Prepend, Replace, CollapseSpaces, Strip}
 use Rattle.model.specs.declared.Metaspace.{Metaspace}
 
--- "Pieces, and each token list's contents, lie end to end": offsets is a row of places, one more than strings.
--- "An offset pair that falls has no length": nothing lies between its places.
+-- Rule 2.2: string i of a table goes from offset i up to offset i + 1. Where the offsets fall nothing lies between them.
 unfoldable pub strings : List ℕ → List ℕ → List (List ℕ)
 strings bytes offsets = between offsets bytes
 
@@ -26,7 +25,7 @@ piece pieces id = getD pieces id []
 unfoldable pub lookupId : List (List ℕ) → List ℕ → List ℕ → Option ℕ
 lookupId pieces lookup bytes = find (λ (id : ℕ). same (piece pieces id) bytes) lookup
 
--- "256 fallback ids, 4,294,967,295 for none."
+-- How a byte without a fallback id is written (rule 2.5).
 abbrev pub noId : ℕ
 noId = 4294967295
 
@@ -34,7 +33,7 @@ noId = 4294967295
 unfoldable pub fallbackId : List ℕ → ℕ → Option ℕ
 fallbackId fallback byte = let id = getD fallback byte noId in cond (eqb id noId) none (some id)
 
--- "Merge rows (left, right, result, rank)".
+-- A merge row (rule 2.6).
 pub record Row : Type 0 where
   pub left : ℕ
   pub right : ℕ
@@ -76,7 +75,7 @@ unfoldable pub tokenAt : TokenList → ℕ → Token
 tokenAt t row =
     record { content = getD (contents t) row []; id = getD (t .ids) row 0; lstrip = getD (t .lstrip) row false; rstrip = getD (t .rstrip) row false }
 
--- "A step string is a place and a length".
+-- Rule 2.8: a step's string, by its place and its length.
 unfoldable pub stepString : List ℕ → Span → List ℕ
 stepString bytes span = slice (span .place) (span .place + span .len) bytes
 

@@ -2,7 +2,8 @@
 use crate::Order;
 ghost use mathlib.Core.Path.{_≡_};
 ghost use Rattle.utf8.specs.Lists.{same};
-ghost use Rattle.model.specs.Search.{byteOrder, pairOrder, isLess};
+ghost use Rattle.model.specs.ByteOrder.{byteOrder, isLess};
+ghost use Rattle.model.specs.inner.Search.{pairOrder};
 
 // How `a` stands to `b` in byte order.
 pub fn byte_order(a: &[u8], b: &[u8]) -> Order

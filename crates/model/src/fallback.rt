@@ -4,7 +4,7 @@ use crate::tables::string_at;
 use crate::tables::wide;
 ghost use mathlib.Core.Path.{_≡_};
 ghost use Rattle.model.specs.Model.{strings, fallbackId};
-ghost use Rattle.model.specs.Search.{foundId};
+ghost use Rattle.model.specs.inner.Search.{foundId};
 ghost use Rattle.model.specs.Check.{fallbackFits, badFallback};
 
 // 4,294,967,295: no id.

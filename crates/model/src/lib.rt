@@ -15,6 +15,7 @@ ghost use Rattle.model.specs.Check.{checkOutcome};
 pub mod compare;
 pub mod fallback;
 mod lookup;
+pub mod mark;
 mod offsets;
 mod rows;
 pub mod search;
@@ -54,7 +55,7 @@ pub enum Metaspace {
     Present { prepend: PrependScheme, split: bool },
 }
 
-// What every call answers: the number of document 01's table, the place that a 9 names, and the three counts.
+// What every call answers: the number (rule 3.1), the place that a 9 names, and the three counts.
 #[repr(C)]
 pub struct Answer {
     pub number: u32,
@@ -81,7 +82,7 @@ pub enum Found {
 // The longest text that a call takes, in bytes or ids.
 pub const TEXT_LIMIT: usize = 1048576;
 
-// Document 01's answer numbers.
+// The answer numbers (rule 3.1).
 pub const WRONG_SIZE: u32 = 1;
 
 pub const OFFSETS_ASTRAY: u32 = 2;
@@ -210,7 +211,7 @@ pub fn check(
     if bad_token(second_bytes, second_offsets) {
         return Answer::refused(BAD_TOKEN, 0);
     }
-    if steps_fail(8, step_bytes, steps, step_count) {
+    if steps_fail(BAD_STEP, step_bytes, steps, step_count) {
         return Answer::refused(BAD_STEP, 0);
     }
     Answer::done(0, 0, 0)

@@ -11,8 +11,9 @@ ghost use mathlib.Core.Bool.{true, false, not, _&&_};
 ghost use Prim.Native.Nat.{ℕ};
 ghost use Rattle.utf8.specs.Lists.{any, count, isEmpty};
 ghost use Rattle.model.specs.Model.{strings, piece};
-ghost use Rattle.model.specs.Search.{isBefore};
-ghost use Rattle.model.specs.Check.{namesNoPiece, lookupAscends, isListed, pieceMissing, isLong, longMissing, badLookup};
+ghost use Rattle.model.specs.ByteOrder.{isBefore};
+ghost use Rattle.model.specs.Check.{namesNoPiece, lookupAscends, isListed, pieceMissing, badLookup};
+ghost use Rattle.model.specs.inner.Tests.{isLong, longMissing};
 
 // Whether the piece of `id` is empty, as is that of an id which has none.
 fn piece_empty(piece_bytes: &[u8], piece_offsets: &[u32], id: usize) -> bool

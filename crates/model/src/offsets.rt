@@ -1,4 +1,5 @@
 // Answer 2: offsets that run in order inside their bytes.
+use crate::OFFSETS_ASTRAY;
 use crate::Step;
 use crate::steps::steps_fail;
 use crate::tables::wide;
@@ -60,5 +61,5 @@ pub fn offsets_astray(
     if !run_in_order(second_bytes, second_offsets) {
         return true;
     }
-    steps_fail(2, step_bytes, steps, step_count)
+    steps_fail(OFFSETS_ASTRAY, step_bytes, steps, step_count)
 }

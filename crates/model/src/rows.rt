@@ -93,7 +93,7 @@ fn rows_join(
     true
 }
 
-// Whether a merge row is out of order, names an id that is not below the piece count, or has a result that is not its join.
+// Whether two merge rows stand in the wrong order, an id of one has no piece, or a result is not its sides joined.
 pub fn bad_row(
     piece_bytes: &[u8],
     piece_offsets: &[u32],

@@ -11,7 +11,7 @@ ghost use mathlib.Core.Path.{_≡_};
 ghost use Prim.Native.Nat.{min};
 ghost use lib.ListN.{length};
 ghost use Rattle.model.specs.Model.{strings};
-ghost use Rattle.model.specs.Search.{searched, pieceOrder, foundPiece, rowOrder, foundRow};
+ghost use Rattle.model.specs.inner.Search.{searched, pieceOrder, foundPiece, rowOrder, foundRow};
 
 // The place in the lookup list, from `from` on and before `to`, of an id whose piece is `key`.
 pub fn find_piece_between(

@@ -1,6 +1,6 @@
 // Answer 1: sizes, and columns that differ in length.
-
 use crate::Step;
+use crate::WRONG_SIZE;
 use crate::steps::steps_fail;
 use crate::tables::wide;
 ghost use mathlib.Core.Path.{_≡_};
@@ -9,13 +9,30 @@ ghost use lib.Dec.{eqb};
 ghost use lib.ListN.{length, take};
 ghost use Rattle.model.specs.Check.{stringTooLong, wrongPieceSizes, wrongRowSizes, wrongTokenSizes, wrongStepSizes};
 
-// Some string that the offsets cut is longer than 255 bytes.
+// The most that a model may have (rule 2.3).
+const PIECE_LIMIT: usize = 524288;
+
+const PIECE_BYTE_LIMIT: usize = 8388608;
+
+const ROW_LIMIT: usize = 1048576;
+
+const TOKEN_LIMIT: usize = 8192;
+
+const STEP_LIMIT: usize = 16;
+
+// The bytes of one piece, of one content, of one string of a step.
+pub const STRING_LIMIT: usize = 255;
+
+// One fallback id for each value of a byte.
+const FALLBACK_COUNT: usize = 256;
+
+// Some string that the offsets cut is too long.
 fn string_too_long(offsets: &[u32]) -> bool
     ensures { λ r. ⌜ r ≡ stringTooLong (now (offsets .entry)) ⌝ }
 {
     let mut i = 0;
     while i + 1 < offsets.len() {
-        if wide(offsets[i]) + 255 < wide(offsets[i + 1]) {
+        if wide(offsets[i]) + STRING_LIMIT < wide(offsets[i + 1]) {
             return true;
         }
         i += 1;
@@ -29,10 +46,10 @@ fn wrong_piece_sizes(bytes: &[u8], offsets: &[u32]) -> bool
     if offsets.len() == 0 {
         return true;
     }
-    if 524288 < offsets.len() - 1 {
+    if PIECE_LIMIT < offsets.len() - 1 {
         return true;
     }
-    if 8388608 < bytes.len() {
+    if PIECE_BYTE_LIMIT < bytes.len() {
         return true;
     }
     string_too_long(offsets)
@@ -41,7 +58,7 @@ fn wrong_piece_sizes(bytes: &[u8], offsets: &[u32]) -> bool
 fn wrong_row_sizes(left: &[u32], right: &[u32], result: &[u32], rank: &[u32]) -> bool
     ensures { λ r. ⌜ r ≡ wrongRowSizes (now (left .entry)) (now (right .entry)) (now (result .entry)) (now (rank .entry)) ⌝ }
 {
-    if 1048576 < left.len() {
+    if ROW_LIMIT < left.len() {
         return true;
     }
     if left.len() != right.len() {
@@ -60,7 +77,7 @@ fn wrong_token_sizes(offsets: &[u32], ids: &[u32], lstrip: &[bool], rstrip: &[bo
         return true;
     }
     let count = offsets.len() - 1;
-    if 8192 < count {
+    if TOKEN_LIMIT < count {
         return true;
     }
     if string_too_long(offsets) {
@@ -78,10 +95,10 @@ fn wrong_token_sizes(offsets: &[u32], ids: &[u32], lstrip: &[bool], rstrip: &[bo
 fn wrong_step_sizes(step_bytes: &[u8], steps: [Step; 16], step_count: usize) -> bool
     ensures { λ r. ⌜ r ≡ wrongStepSizes (take «step_count» steps) «step_count» ⌝ }
 {
-    if 16 < step_count {
+    if STEP_LIMIT < step_count {
         return true;
     }
-    steps_fail(1, step_bytes, steps, step_count)
+    steps_fail(WRONG_SIZE, step_bytes, steps, step_count)
 }
 
 // Answer 1 applies to the model.
@@ -110,7 +127,7 @@ pub fn wrong_sizes(
     if wrong_piece_sizes(piece_bytes, piece_offsets) {
         return true;
     }
-    if fallback.len() != 256 {
+    if fallback.len() != FALLBACK_COUNT {
         return true;
     }
     if wrong_row_sizes(left, right, result, rank) {

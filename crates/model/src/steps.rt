@@ -1,6 +1,9 @@
 // What answers 1, 2 and 8 say of the strings of steps. The number of the answer says which test is made.
+use crate::OFFSETS_ASTRAY;
 use crate::Span;
 use crate::Step;
+use crate::WRONG_SIZE;
+use crate::sizes::STRING_LIMIT;
 use crate::tables::part;
 use crate::tables::wide;
 use utf8::chars::is_valid;
@@ -9,18 +12,19 @@ ghost use Prim.Native.Nat.{_≤_};
 ghost use lib.ListN.{take};
 ghost use Rattle.utf8.specs.Lists.{any};
 ghost use Rattle.model.specs.Model.{spansOf};
-ghost use Rattle.model.specs.Check.{stepSpans, spanFails};
+ghost use Rattle.model.specs.Check.{stepSpans};
+ghost use Rattle.model.specs.inner.Tests.{spanFails};
 
-// 1: the string is longer than 255 bytes. 2: it runs past the end of the bytes. 8: it is not valid UTF-8.
+// WRONG_SIZE: the string is too long. OFFSETS_ASTRAY: it runs past the end of the bytes. Any other: it is no valid UTF-8.
 fn span_fails(number: u32, bytes: &[u8], span: Span) -> bool
     ensures { λ r. ⌜ r ≡ spanFails number (now (bytes .entry)) span ⌝ }
 {
     let start = wide(span.place);
     let len = wide(span.len);
-    if number == 1 {
-        return 255 < len;
+    if number == WRONG_SIZE {
+        return STRING_LIMIT < len;
     }
-    if number == 2 {
+    if number == OFFSETS_ASTRAY {
         return bytes.len() < start + len;
     }
     !is_valid(part(bytes, start, start + len))

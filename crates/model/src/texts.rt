@@ -23,7 +23,7 @@ fn empty_or_no_text(content: &[u8]) -> bool
     !is_valid(content)
 }
 
-// Some piece is neither valid UTF-8 nor exactly one byte.
+// Some piece of two bytes or more is no valid UTF-8.
 pub fn bad_piece(bytes: &[u8], offsets: &[u32]) -> bool
     ensures { λ r. ⌜ r ≡ badPiece (strings (now (bytes .entry)) (now (offsets .entry))) ⌝ }
 {
@@ -37,7 +37,7 @@ pub fn bad_piece(bytes: &[u8], offsets: &[u32]) -> bool
     false
 }
 
-// Some token's content is empty or not valid UTF-8.
+// Some content of a token is empty or no valid UTF-8.
 pub fn bad_token(bytes: &[u8], offsets: &[u32]) -> bool
     ensures { λ r. ⌜ r ≡ badToken (strings (now (bytes .entry)) (now (offsets .entry))) ⌝ }
 {

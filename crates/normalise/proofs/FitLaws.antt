@@ -11,7 +11,7 @@ use lib.ListN.{length, drop}
 use Rattle.utf8.proofs.Tests.{either}
 use Rattle.normalise.specs.declared.Length.{Length}
 use Rattle.normalise.specs.declared.Length.the-variants.{Fits, TooLong}
-use Rattle.normalise.specs.Fit.{fitted, Put, put}
+use Rattle.normalise.specs.inner.Fit.{fitted, Put, put}
 
 pub fits : (n room : ℕ) → n ≤ room → Fits n ≡ fitted n room
 unfolding fitted

@@ -6,7 +6,7 @@ use mathlib.Core.List.{List, []}
 use lib.ListN.{length, length-append}
 use Rattle.utf8.proofs.Writing.{Begins}
 use Rattle.normalise.specs.declared.Length.the-variants.{Fits, TooLong}
-use Rattle.normalise.specs.Fit.{fitted}
+use Rattle.normalise.specs.inner.Fit.{fitted}
 use Rattle.normalise.proofs.FitLaws.{fits, too-long}
 
 -- n bytes of the output are counted, and rest follows them.

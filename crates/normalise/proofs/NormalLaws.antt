@@ -12,13 +12,14 @@ use Rattle.utf8.specs.Chars.{valid, longestValidPrefix}
 use Rattle.utf8.proofs.Valid.{valid-by-prefix}
 use Rattle.model.specs.Model.{Model, stepsOf}
 use Rattle.model.specs.Answers.{lowest, zeros, placeOf, scratchAfter, Outcome, ScratchOutcome, outcome, withScratch, refused}
-use Rattle.model.specs.Check.{modelTests, checkNumber, textTooLong}
-use Rattle.model.proofs.AnswerLaws.{lowest-later, lowest-first, tests-positive, tests-of-check, text-too-long, model-bound}
+use Rattle.model.specs.Check.{modelTests, checkNumber, checkOutcome, textTooLong}
+use Rattle.model.proofs.AnswerLaws.{lowest-later, lowest-first, tests-positive, tests-of-check, text-too-long, model-bound, check-refuses, number-checked}
 use Rattle.normalise.specs.Steps.{stepOutputs, stepped}
 use Rattle.normalise.specs.Spaces.{metaspaced}
 use Rattle.normalise.specs.Normalise.{normalised, outgrows, normaliseOutputs, normaliseNumber, normaliseOutcome}
-use Rattle.normalise.specs.Run.{Run, standing, finished, ended, stepsRun, metaspaceRun, normalRun, settledRun}
+use Rattle.normalise.specs.inner.Run.{Run, standing, finished, ended, stepsRun, metaspaceRun, normalRun, settledRun}
 use Rattle.normalise.specs.declared.Ran.the-variants.{Given}
+use Rattle.model.specs.declared.Answer.{Answer}
 use Rattle.model.specs.declared.Step.{Step}
 use Rattle.model.specs.declared.Metaspace.{Metaspace}
 use Rattle.normalise.proofs.StandLaws.{run-too-long, run-stands}
@@ -41,7 +42,7 @@ module _ (m : Model) (text : List ℕ) (first : Bool) (out a b : List ℕ) where
   unfolding normaliseNumber
   later e = lowest-later (modelTests m (length text)) rest (tests-positive m (length text)) e
 
-  pub broken-text : lowest (modelTests m (length text)) ≡ 0 → valid text ≡ false → normaliseOutcome m text first out a b ≡ refusal 9 (length (longestValidPrefix text))
+  broken-text : lowest (modelTests m (length text)) ≡ 0 → valid text ≡ false → normaliseOutcome m text first out a b ≡ refusal 9 (length (longestValidPrefix text))
   unfolding normaliseOutcome withScratch outcome placeOf scratchAfter
   broken-text e v = rw (later e, v)
 
@@ -56,34 +57,67 @@ module _ (m : Model) (text : List ℕ) (first : Bool) (out a b : List ℕ) where
       rw (later e, v, g, f, here .fine, here .there, f)
 
   -- A fine model and a valid text: the run decides.
-  pub fine-text : lowest (modelTests m (length text)) ≡ 0 → valid text ≡ true → normaliseOutcome m text first out a b ≡ settledRun run text out a b
+  fine-text : lowest (modelTests m (length text)) ≡ 0 → valid text ≡ true → normaliseOutcome m text first out a b ≡ settledRun run text out a b
   fine-text e v = settle (outgrows (normaliseOutputs m first text) room) (ltb (length out) (length (normalised m first text))) v refl refl e
 
-  pub refused-model : (n : ℕ) → lowest (modelTests m (length text)) ≡ n → (n ≡ 0 → ⊥) → normaliseOutcome m text first out a b ≡ refusal n 0
+  refused-model : (n : ℕ) → lowest (modelTests m (length text)) ≡ n → (n ≡ 0 → ⊥) → normaliseOutcome m text first out a b ≡ refusal n 0
   unfolding normaliseOutcome normaliseNumber withScratch outcome placeOf scratchAfter
   refused-model n e h =
       let small : n ≤ 8 = (rw e at (model-bound m (length text))) in
       let some : lowest (modelTests m (length text)) ≡ 0 → ⊥ = λ z. h (sym e ∙ z) in
       rw (lowest-first (modelTests m (length text)) rest some, e, ne-eqb n 0 h, ne-eqb n 9 (λ z. omega arith), ne-eqb n 11 (λ z. omega arith), ne-eqb n 12 (λ z. omega arith))
 
-  -- The same by what the code has tested.
+-- What a call is lent.
+pub record Lent : Type 0 where
+  pub model : Model
+  pub text : List ℕ
+  pub first : Bool
+  pub out : List ℕ
+  pub scratchA : List ℕ
+  pub scratchB : List ℕ
 
-  of-check : length text ≤ 1048576 → lowest (modelTests m (length text)) ≡ checkNumber m
+-- The outcome by what the code has tested.
+module _ (g : Lent) where
+  abbrev pub wanted : ScratchOutcome
+  wanted = normaliseOutcome (g .model) (g .text) (g .first) (g .out) (g .scratchA) (g .scratchB)
+
+  -- an answer that leaves the buffers as they were
+  abbrev pub kept : Answer → ScratchOutcome
+  kept answer = record { answer = answer; out = g .out; scratchA = g .scratchA; scratchB = g .scratchB }
+
+  abbrev pub whole-run : ScratchOutcome
+  whole-run =
+      settledRun (run (g .model) (g .text) (g .first) (g .out) (g .scratchA) (g .scratchB)) (g .text) (g .out) (g .scratchA) (g .scratchB)
+
+  of-check : length (g .text) ≤ 1048576 → lowest (modelTests (g .model) (length (g .text))) ≡ checkNumber (g .model)
   unfolding textTooLong
-  of-check h = tests-of-check m (length text) (le-ltb 1048576 (length text) h)
+  of-check h = tests-of-check (g .model) (length (g .text)) (le-ltb 1048576 (length (g .text)) h)
 
-  pub long-text : 1048576 < length text → normaliseOutcome m text first out a b ≡ refusal 1 0
+  pub long-text : (answer : Answer) → answer ≡ refused 1 0 → 1048576 < length (g .text) → kept answer ≡ wanted
   unfolding textTooLong
-  long-text h = refused-model 1 (text-too-long m (length text) (lt-ltb 1048576 (length text) h)) (suc-ne-zero 0)
+  long-text answer e h =
+      ap kept e
+      ∙ sym
+      (refused-model (g .model) (g .text) (g .first) (g .out) (g .scratchA) (g .scratchB) 1
+      (text-too-long (g .model) (length (g .text)) (lt-ltb 1048576 (length (g .text)) h)) (suc-ne-zero 0))
 
-  pub bad-model : length text ≤ 1048576 → (checkNumber m ≡ 0 → ⊥) → normaliseOutcome m text first out a b ≡ refusal (checkNumber m) 0
-  bad-model h n = refused-model (checkNumber m) (of-check h) n
+  pub bad-model : (checked : Answer) → checked ≡ checkOutcome (g .model) → length (g .text) ≤ 1048576 → (checked .number ≡ 0 → ⊥) → kept checked ≡ wanted
+  bad-model checked e h n =
+      let some : checkNumber (g .model) ≡ 0 → ⊥ = λ z. n (number-checked (g .model) checked e ∙ z) in
+      ap kept (e ∙ check-refuses (g .model) some)
+      ∙ sym (refused-model (g .model) (g .text) (g .first) (g .out) (g .scratchA) (g .scratchB) (checkNumber (g .model)) (of-check h) some)
 
-  pub bad-text : length text ≤ 1048576 → checkNumber m ≡ 0 → (length (longestValidPrefix text) ≡ length text → ⊥) → normaliseOutcome m text first out a b ≡ refusal 9 (length (longestValidPrefix text))
-  bad-text h n p = broken-text (of-check h ∙ n) (valid-by-prefix text ∙ ne-eqb (length (longestValidPrefix text)) (length text) p)
+  pub bad-text : (answer : Answer) (prefix : ℕ) → answer ≡ refused 9 prefix → prefix ≡ length (longestValidPrefix (g .text)) → length (g .text) ≤ 1048576 → checkNumber (g .model) ≡ 0 → (prefix ≡ length (g .text) → ⊥) → kept answer ≡ wanted
+  bad-text answer prefix e is h n short =
+      ap kept (e ∙ ap (refused 9) is)
+      ∙ sym
+      (broken-text (g .model) (g .text) (g .first) (g .out) (g .scratchA) (g .scratchB) (of-check h ∙ n)
+      (valid-by-prefix (g .text) ∙ ne-eqb (length (longestValidPrefix (g .text))) (length (g .text)) (λ z. short (is ∙ z))))
 
-  pub good-text : length text ≤ 1048576 → checkNumber m ≡ 0 → length (longestValidPrefix text) ≡ length text → normaliseOutcome m text first out a b ≡ settledRun run text out a b
-  good-text h n p = fine-text (of-check h ∙ n) (valid-by-prefix text ∙ eq-eqb (length (longestValidPrefix text)) (length text) p)
+  pub good-text : (prefix : ℕ) → prefix ≡ length (longestValidPrefix (g .text)) → length (g .text) ≤ 1048576 → checkNumber (g .model) ≡ 0 → prefix ≡ length (g .text) → wanted ≡ whole-run
+  good-text prefix is h n whole =
+      fine-text (g .model) (g .text) (g .first) (g .out) (g .scratchA) (g .scratchB) (of-check h ∙ n)
+      (valid-by-prefix (g .text) ∙ eq-eqb (length (longestValidPrefix (g .text))) (length (g .text)) (sym is ∙ whole))
 
 -- What the calls of a normalization leave, put together.
 pub settled-by : (bytes : List ℕ) (steps : List Step) (metaspace : Metaspace) (first : Bool) (text out a b : List ℕ) (room : ℕ) (stepped-run whole-run : Run) (o : Outcome) (za zb : List ℕ)

@@ -11,8 +11,8 @@ use Rattle.model.specs.declared.Step.{Step}
 use Rattle.normalise.specs.declared.Length.{Length}
 use Rattle.normalise.specs.declared.Ran.{Ran}
 use Rattle.normalise.specs.declared.Ran.the-variants.{Given, InA, InB, TooLong}
-use Rattle.normalise.specs.Fit.{Put, put}
-use Rattle.normalise.specs.Run.{Run, standing, inA, inB, passed, turn, stepsRun}
+use Rattle.normalise.specs.inner.Fit.{Put, put}
+use Rattle.normalise.specs.inner.Run.{Run, standing, inA, inB, passed, turn, stepsRun}
 use Rattle.normalise.specs.Steps.{applied}
 
 -- One turn, from what a call put into the buffer where the text does not stand.

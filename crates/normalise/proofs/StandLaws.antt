@@ -18,11 +18,11 @@ use Rattle.model.specs.declared.Metaspace.the-variants.{Absent, Present}
 use Rattle.normalise.specs.declared.Length.the-variants as fit
 use Rattle.normalise.specs.declared.Ran.{Ran}
 use Rattle.normalise.specs.declared.Ran.the-variants.{Given, InA, InB, TooLong}
-use Rattle.normalise.specs.Fit.{Put, put}
+use Rattle.normalise.specs.inner.Fit.{Put, put}
 use Rattle.normalise.specs.Steps.{applied, outputsOf}
 use Rattle.normalise.specs.Spaces.{spacesMarked, schemePrepends, markPrepended, metaspaceOutput}
 use Rattle.normalise.specs.Normalise.{outgrows}
-use Rattle.normalise.specs.Run.{Run, standing, inA, inB, passed, turn, stepsRun, metaspaceRun, isTooLong, normalRun}
+use Rattle.normalise.specs.inner.Run.{Run, standing, inA, inB, passed, turn, stepsRun, metaspaceRun, isTooLong, normalRun}
 
 module _ (o : List ℕ) (room : ℕ) (out : List ℕ) where
   put-fits : lists.length o ≤ room → room ≤ lists.length out → _≡_ {A = Put} (put o room out) (record { length = fit.Fits (lists.length o); out = o ++ drop (lists.length o) out })

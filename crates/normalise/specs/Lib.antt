@@ -1,5 +1,4 @@
 pub mod Steps
 pub mod Spaces
 pub mod Normalise
-pub mod Fit
-pub mod Run
+pub mod inner

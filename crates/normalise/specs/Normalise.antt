@@ -1,4 +1,4 @@
--- The call normalise: "steps and metaspace on the whole text; the caller gives the first flag".
+-- The call normalise (rule 4.7).
 use Prim.Native.Nat.{ℕ, min}
 use mathlib.Core.Bool.{Bool, not}
 use mathlib.Core.List.{List, [], _∷_, _++_}
@@ -15,7 +15,7 @@ use Rattle.normalise.specs.Spaces.{metaspaceOutput, metaspaced}
 unfoldable pub normalised : Model → Bool → List ℕ → List ℕ
 normalised m first text = metaspaced (m .metaspace) first (stepped m text)
 
--- 11: "some step's or metaspace's output is longer than the shorter scratch buffer".
+-- Rule 3.4: some output does not fit; room is the length of the shorter scratch buffer.
 unfoldable pub outgrows : List (List ℕ) → ℕ → Bool
 outgrows outputs room = any (λ (output : List ℕ). ltb room (length output)) outputs
 

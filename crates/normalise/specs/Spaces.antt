@@ -1,4 +1,4 @@
--- Metaspace.
+-- Metaspace (rule 4.6).
 use Prim.Native.Nat.{ℕ}
 use mathlib.Core.Bool.{Bool, true, false, not, cond, _&&_}
 use mathlib.Core.List.{List, [], _∷_, _++_}
@@ -10,17 +10,17 @@ use Rattle.model.specs.declared.Metaspace.the-variants.{Absent, Present}
 use Rattle.model.specs.declared.PrependScheme.{PrependScheme}
 use Rattle.model.specs.declared.PrependScheme.the-variants.{Never, Always, First}
 
--- "Metaspace turns each space into the mark."
+-- A mark for every space.
 unfoldable pub spacesMarked : List ℕ → List ℕ
 spacesMarked text = joinMap (λ (b : ℕ). cond (eqb b 0x20) mark (b ∷ [])) text
 
--- "If the scheme says so (Always, or First in the first section)".
+-- Whether the scheme wants a mark in front; first is the first flag.
 unfoldable pub schemePrepends : PrependScheme → Bool → Bool
 schemePrepends Never first = false
 schemePrepends Always first = true
 schemePrepends First first = first
 
--- "Then prepends a mark if the scheme says so, the text is not empty and doesn't begin with the mark."
+-- The mark in front where it is wanted, but not before nothing and not before a mark.
 unfoldable pub markPrepended : Bool → List ℕ → List ℕ
 markPrepended wanted text = cond (wanted && not (isEmpty text) && not (startsWith mark text)) (mark ++ text) text
 

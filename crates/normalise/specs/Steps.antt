@@ -11,15 +11,15 @@ use Rattle.model.specs.Model.{Model, stepsOf, stepString}
 use Rattle.model.specs.declared.Step.{Step}
 use Rattle.model.specs.declared.Step.the-variants.{Prepend, Replace, CollapseSpaces, Strip}
 
--- "Prepend skips empty text."
+-- Prepend (rule 4.2).
 unfoldable pub prepended : List ℕ → List ℕ → List ℕ
 prepended content text = cond (isEmpty text) text (content ++ text)
 
--- The text cut into occurrences of the pattern, "left to right without overlap", and single bytes.
+-- The text cut from its front into occurrences of the pattern and single bytes.
 unfoldable pub occurrences : List ℕ → List ℕ → List (List ℕ)
 occurrences pattern text = cutBy (λ (rest : List ℕ). cond (startsWith pattern rest) (length pattern) 1) text
 
--- "An empty pattern puts the content before each character and at the end."
+-- Replace (rule 4.3); the empty pattern stands in front of every character and behind the last.
 unfoldable pub replaced : List ℕ → List ℕ → List ℕ → List ℕ
 replaced pattern content text =
     cond (isEmpty pattern) (joinMap (λ (c : List ℕ). content ++ c) (chars text) ++ content)
@@ -29,12 +29,12 @@ replaced pattern content text =
 unfoldable pub spaceRun : List ℕ → List ℕ
 spaceRun text = takeWhile (eqb 0x20) text
 
--- "CollapseSpaces turns each run of two or more U+0020 into the content."
+-- CollapseSpaces (rule 4.4).
 unfoldable pub collapsed : List ℕ → List ℕ → List ℕ
 collapsed content text =
     joinMap (λ (part : List ℕ). cond (leb 2 (length part)) content part) (cutBy (λ (rest : List ℕ). length (spaceRun rest)) text)
 
--- "Strip removes, at the left and right ends as its two flags say, White_Space."
+-- Strip (rule 4.5).
 unfoldable pub stripped : Bool → Bool → List ℕ → List ℕ
 stripped left right text =
     let rest = cond left (trimStart text) text in
@@ -46,7 +46,7 @@ applied bytes (Replace pattern content) text = replaced (stepString bytes patter
 applied bytes (CollapseSpaces content) text = collapsed (stepString bytes content) text
 applied bytes (Strip left right) text = stripped left right text
 
--- "Steps run in order": the output of each.
+-- Rule 4.1: the output of each step.
 abbrev pub outputsOf : List ℕ → List Step → List ℕ → List (List ℕ)
 outputsOf bytes [] text = []
 outputsOf bytes (step ∷ steps) text = applied bytes step text ∷ outputsOf bytes steps (applied bytes step text)

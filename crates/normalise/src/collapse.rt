@@ -8,7 +8,7 @@ ghost use mathlib.Core.List.{_++_};
 ghost use Prim.Native.Nat.{_≤_};
 ghost use lib.ListN.{length, drop};
 ghost use Rattle.normalise.specs.Steps.{collapsed};
-ghost use Rattle.normalise.specs.Fit.{Put, fitted, put};
+ghost use Rattle.normalise.specs.inner.Fit.{Put, fitted, put};
 
 fn collapsed_length(content: &[u8], text: &[u8], room: usize) -> Length
     ensures { λ r. ⌜ r ≡ fitted (length (collapsed (now (content .entry)) (now (text .entry)))) room ⌝ }

@@ -8,7 +8,7 @@ ghost use mathlib.Core.List.{_++_};
 ghost use Prim.Native.Nat.{_-_, _≤_};
 ghost use lib.ListN.{length, take};
 ghost use Rattle.model.specs.Answers.{Outcome, zeros};
-ghost use Rattle.normalise.specs.Run.{standing, finished, ended};
+ghost use Rattle.normalise.specs.inner.Run.{standing, finished, ended};
 
 // Zeros from `start` to the buffer's end.
 fn clear_from(out: &mut [u8], start: usize)

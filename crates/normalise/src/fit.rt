@@ -2,7 +2,7 @@
 use crate::Length;
 ghost use mathlib.Core.Path.{_≡_};
 ghost use Prim.Native.Nat.{min};
-ghost use Rattle.normalise.specs.Fit.{fitted};
+ghost use Rattle.normalise.specs.inner.Fit.{fitted};
 
 pub fn fit(n: usize, room: usize) -> Length
     ensures { λ r. ⌜ r ≡ fitted n room ⌝ }

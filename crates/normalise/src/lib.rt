@@ -28,7 +28,7 @@ ghost use Rattle.model.specs.Answers.{ScratchOutcome};
 ghost use Rattle.model.specs.Check.{checkNumber};
 ghost use Rattle.model.specs.Model.{modelOf, tokenList};
 ghost use Rattle.normalise.specs.Normalise.{normaliseOutcome};
-ghost use Rattle.normalise.specs.Run.{Run, metaspaceRun, normalRun, settledRun};
+ghost use Rattle.normalise.specs.inner.Run.{Run, metaspaceRun, normalRun, settledRun};
 
 // The length of an output, where there is room for it.
 pub enum Length {

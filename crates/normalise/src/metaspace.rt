@@ -2,15 +2,16 @@
 use crate::Length;
 use crate::copy::copy_at;
 use crate::fit::lesser;
-use crate::prefix::starts_with;
 use model::PrependScheme;
+use model::mark::MARK;
+use utf8::edges::starts_with;
 ghost use mathlib.Core.Path.{_≡_};
 ghost use mathlib.Core.List.{_++_};
 ghost use Prim.Native.Nat.{_+_, _≤_};
 ghost use lib.ListN.{length, take, drop};
 ghost use Rattle.model.specs.Mark.{mark};
 ghost use Rattle.normalise.specs.Spaces.{spacesMarked, schemePrepends, markPrepended};
-ghost use Rattle.normalise.specs.Fit.{Put, fitted, put};
+ghost use Rattle.normalise.specs.inner.Fit.{Put, fitted, put};
 
 fn scheme_prepends(scheme: PrependScheme, first: bool) -> bool
     ensures { λ r. ⌜ r ≡ schemePrepends scheme first ⌝ }
@@ -35,7 +36,7 @@ fn lead_width(wanted: bool, text: &[u8]) -> usize
     if text[0] == 0x20 {
         return 0;
     }
-    if starts_with(text, &[0xE2, 0x96, 0x81]) {
+    if starts_with(text, &MARK) {
         return 0;
     }
     3
@@ -72,7 +73,7 @@ fn write_mark(out: &mut [u8], at: usize)
     requires { ⌜ at + length mark ≤ length (now out) ⌝ }
     ensures { λ _. ⌜ now (out .exit) ≡ take at (now (out .entry)) ++ mark ++ drop (at + length mark) (now (out .entry)) ⌝ }
 {
-    copy_at(out, at, &[0xE2, 0x96, 0x81]);
+    copy_at(out, at, &MARK);
 }
 
 fn write_spaces_marked(text: &[u8], out: &mut [u8])
@@ -97,7 +98,7 @@ fn write_spaces_marked(text: &[u8], out: &mut [u8])
 fn metaspace_length(wanted: bool, text: &[u8], room: usize) -> Length
     ensures { λ r. ⌜ r ≡ fitted (length (markPrepended wanted (spacesMarked (now (text .entry))))) room ⌝ }
 {
-    let bytes = [0xE2, 0x96, 0x81];
+    let bytes = MARK;
     let w = lead_width(wanted, text);
     marked_length(&bytes[..w], text, room)
 }
@@ -106,7 +107,7 @@ fn write_metaspace(wanted: bool, text: &[u8], out: &mut [u8])
     requires { ⌜ length (markPrepended wanted (spacesMarked (now text))) ≤ length (now out) ⌝ }
     ensures { λ _. ⌜ now (out .exit) ≡ markPrepended wanted (spacesMarked (now (text .entry))) ++ drop (length (markPrepended wanted (spacesMarked (now (text .entry))))) (now (out .entry)) ⌝ }
 {
-    let bytes = [0xE2, 0x96, 0x81];
+    let bytes = MARK;
     let w = lead_width(wanted, text);
     copy_at(out, 0, &bytes[..w]);
     write_spaces_marked(text, &mut out[w..]);

@@ -3,25 +3,8 @@ use utf8::chars::char_width;
 ghost use mathlib.Core.Path.{_≡_};
 ghost use Prim.Native.Nat.{max};
 ghost use lib.ListN.{length};
-ghost use Rattle.utf8.specs.Lists.{startsWith};
 ghost use Rattle.utf8.specs.Chars.{charWidth};
 ghost use Rattle.normalise.specs.Steps.{spaceRun};
-
-pub fn starts_with(text: &[u8], pattern: &[u8]) -> bool
-    ensures { λ r. ⌜ r ≡ startsWith (now (pattern .entry)) (now (text .entry)) ⌝ }
-{
-    let mut i = 0;
-    while i < pattern.len() {
-        if text.len() <= i {
-            return false;
-        }
-        if pattern[i] != text[i] {
-            return false;
-        }
-        i += 1;
-    }
-    true
-}
 
 // How many spaces stand at the head.
 pub fn space_run(text: &[u8]) -> usize

@@ -3,13 +3,13 @@ use crate::Length;
 use crate::copy::copy_at;
 use crate::fit::lesser;
 use crate::prefix::char_step;
-use crate::prefix::starts_with;
+use utf8::edges::starts_with;
 ghost use mathlib.Core.Path.{_≡_};
 ghost use mathlib.Core.List.{[], _++_};
 ghost use Prim.Native.Nat.{_≤_, _<_};
 ghost use lib.ListN.{length, drop};
 ghost use Rattle.normalise.specs.Steps.{replaced};
-ghost use Rattle.normalise.specs.Fit.{Put, fitted, put};
+ghost use Rattle.normalise.specs.inner.Fit.{Put, fitted, put};
 
 // The measure where the pattern is not empty.
 fn exchanged_length(pattern: &[u8], content: &[u8], text: &[u8], room: usize) -> Length

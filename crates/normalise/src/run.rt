@@ -10,7 +10,7 @@ ghost use mathlib.Core.Path.{_≡_};
 ghost use mathlib.Core.List.{List};
 ghost use Prim.Native.Nat.{ℕ};
 ghost use lib.ListN.{take};
-ghost use Rattle.normalise.specs.Run.{Run, inA, inB, turn, stepsRun};
+ghost use Rattle.normalise.specs.inner.Run.{Run, inA, inB, turn, stepsRun};
 ghost use Rattle.normalise.specs.Spaces.{spacesMarked, schemePrepends, markPrepended};
 ghost use Rattle.normalise.specs.declared.Ran.the-variants.{Given};
 ghost use Rattle.normalise.specs.Steps.{applied};

@@ -11,7 +11,7 @@ use model::tables::wide;
 ghost use mathlib.Core.Path.{_≡_};
 ghost use Rattle.model.specs.Model.{stepString};
 ghost use Rattle.normalise.specs.Steps.{applied};
-ghost use Rattle.normalise.specs.Fit.{Put, put};
+ghost use Rattle.normalise.specs.inner.Fit.{Put, put};
 
 // The string of the step bytes that a span names.
 fn string_of(step_bytes: &[u8], span: Span) -> &[u8]

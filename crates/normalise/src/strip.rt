@@ -10,7 +10,7 @@ ghost use mathlib.Core.List.{_++_};
 ghost use Prim.Native.Nat.{_≤_};
 ghost use lib.ListN.{length, drop};
 ghost use Rattle.normalise.specs.Steps.{stripped};
-ghost use Rattle.normalise.specs.Fit.{Put, fitted, put};
+ghost use Rattle.normalise.specs.inner.Fit.{Put, fitted, put};
 
 // The part of `text` that is left.
 fn kept(left: bool, right: bool, text: &[u8]) -> &[u8]

@@ -15,7 +15,7 @@ pub record Match : Type 0 where
 unfoldable pub end : List (List ℕ) → Match → ℕ
 end contents match = match .place + length (getD contents (match .row) [])
 
--- Of numbered contents the longer one, of equals the first: "the earlier row first among equal contents".
+-- Of numbered contents the longer one, of equals the one with the lower row.
 abbrev pub longer : ℕ × List ℕ → Option (ℕ × List ℕ) → ℕ × List ℕ
 longer c none = c
 longer c (some d) = cond (leb (length (d .1)) (length (c .1))) c d
@@ -50,6 +50,6 @@ matchesFor zero contents text start = []
 matchesFor (suc turns) contents text start =
     matchThen (λ (match : Match). matchesFor turns contents text (end contents match)) (firstMatch contents start (drop start text))
 
--- "First-list tokens are matched leftmost-longest without overlap."
+-- Rule 7.1: the matches of the first list, over the whole text.
 unfoldable pub matches : List (List ℕ) → List ℕ → List Match
 matches contents text = matchesFor (length text) contents text 0

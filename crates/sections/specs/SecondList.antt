@@ -28,7 +28,7 @@ abbrev pub normalPartsFor : ℕ → TokenList → Bool → List ℕ → List (It
 normalPartsFor zero t first text = []
 normalPartsFor (suc turns) t first text = normalPartsAround t (normalPartsFor turns t false) first text (firstMatch (contents t) 0 text)
 
--- "Second-list tokens (earliest, then longest, then earlier row, searched afresh in what each token and its rstrip leave) with the
--- same strips"; "first flag true in the first section until a token was found".
+-- Rules 7.7 and 7.8: the tokens of the second list and the parts between them, each search in what the last token left. The first flag
+-- is given for the section; behind a token it is false.
 unfoldable pub normalParts : TokenList → Bool → List ℕ → List (Item NormalPart)
 normalParts t first text = normalPartsFor (length text) t first text

@@ -21,7 +21,7 @@ takenApart f [] = []
 takenApart f (token id ∷ items) = token id ∷ takenApart f items
 takenApart f (plain a ∷ items) = f a ++ takenApart f items
 
--- "lstrip trims White_Space off the section before": where the section that begins at start ends before the match.
+-- Rule 7.3: where the section that begins at start ends before the match; lstrip trims it.
 unfoldable pub stopBefore : TokenList → List ℕ → ℕ → Match → ℕ
 stopBefore t text start match =
     cond (tokenAt t (match .row) .lstrip) (start + length (trimEnd (slice start (match .place) text))) (match .place)
@@ -30,7 +30,7 @@ stopBefore t text start match =
 unfoldable pub whiteLength : List ℕ → ℕ
 whiteLength text = length text - length (trimStart text)
 
--- "rstrip skips it after": where the section after the match begins.
+-- Rule 7.3: where the section after the match begins; rstrip passes over white space.
 unfoldable pub startAfter : TokenList → List ℕ → Match → ℕ
 startAfter t text match =
     let e = end (contents t) match in cond (tokenAt t (match .row) .rstrip) (e + whiteLength (drop e text)) e
@@ -44,11 +44,11 @@ pub record Section : Type 0 where
 unfoldable pub bytesOf : List ℕ → Section → List ℕ
 bytesOf text section = slice (section .start) (section .stop) text
 
--- "Empty sections give nothing."
+-- An empty section is nothing.
 unfoldable pub sectionOf : ℕ → ℕ → Bool → List (Item Section)
 sectionOf start stop opening = cond (ltb start stop) (plain (record { start = start; stop = stop; opening = opening }) ∷ []) []
 
--- "A match that starts before the current section start is skipped."
+-- Rule 7.2: the match begins before the place where the current section begins.
 unfoldable pub isSwallowed : ℕ → Match → Bool
 isSwallowed start match = ltb (match .place) start
 
@@ -62,7 +62,7 @@ sectionsFrom t text start opening (match ∷ later) =
     ++ token (tokenAt t (match .row) .id) ∷ sectionsFrom t text (startAfter t text match) false later in
     cond (isSwallowed start match) skipped taken
 
--- "An empty text with an empty first list still runs its steps": without tokens the whole text is the one section, empty or not.
+-- Rule 7.4: without tokens the whole text is the one section, empty or not.
 unfoldable pub sections : TokenList → List ℕ → List (Item Section)
 sections t text =
     cond (isEmpty (contents t)) (plain (record { start = 0; stop = length text; opening = true }) ∷ [])

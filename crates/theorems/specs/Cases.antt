@@ -8,7 +8,7 @@ use Rattle.utf8.specs.WhiteSpace
 use Rattle.model.specs.Model
 use Rattle.model.specs.Mark
 use Rattle.model.specs.Answers
-use Rattle.model.specs.Search
+use Rattle.model.specs.ByteOrder
 use Rattle.model.specs.Check
 use Rattle.normalise.specs.Steps
 use Rattle.normalise.specs.Spaces
@@ -91,7 +91,7 @@ unfolding Chars.charForms Chars.charWidth Chars.chars Chars.isChar Chars.valid C
     Model.strings Model.piece Model.lookupId Model.fallbackId Model.rowsOf Model.rowOf Model.contents Model.tokenAt Model.stepString Model.spansOf Model.piecesOf Model.mergeRows Model.stepsOf
     Mark.mark Mark.space Mark.markWidth Mark.startsWithMark Mark.endsWithMark
     Answers.placeOf Answers.filled Answers.scratchAfter Answers.outcome Answers.withScratch
-    Search.isBefore
+    ByteOrder.isBefore
     Check.stepSpans Check.pairTooLong Check.stringTooLong Check.spanTooLong Check.wrongPieceSizes Check.wrongRowSizes Check.wrongTokenSizes Check.wrongListSizes Check.wrongStepSizes Check.wrongSizes Check.textTooLong Check.pairRises Check.runInOrder Check.liesOutside Check.offsetsAstray Check.neitherTextNorByte Check.badPiece Check.namesNoPiece Check.lookupAscends Check.isListed Check.pieceMissing Check.badLookup Check.fallbackFits Check.badFallback Check.pairBefore Check.rowsAscend Check.allBelow Check.rowsJoin Check.badRow Check.emptyOrNoText Check.badToken Check.noText Check.badStep Check.modelTests Check.checkNumber Check.checkOutcome
     Steps.prepended Steps.occurrences Steps.replaced Steps.spaceRun Steps.collapsed Steps.stripped Steps.applied Steps.stepOutputs Steps.stepped
     Spaces.spacesMarked Spaces.schemePrepends Spaces.markPrepended Spaces.metaspaceOutput Spaces.metaspaced

@@ -1,4 +1,4 @@
--- Document 01's table, P1 to P12, proved from the definitions by one computed test over one list.
+-- What the toy models give, P1 to P12 (rule 14.3), proved from the definitions by one computed test over one list.
 use Prim.Native.Nat.{ℕ}
 use mathlib.Core.Path.{_≡_, refl}
 use mathlib.Core.Bool.{true, false}

@@ -1,4 +1,4 @@
--- Document 01's toy models T and U.
+-- The toy models T and U (rules 14.1 and 14.2).
 use Prim.Native.Nat.{ℕ}
 use mathlib.Core.Bool.{false}
 use mathlib.Core.List.{List, [], _∷_, _++_}
@@ -16,12 +16,11 @@ noTokens = record { bytes = []; offsets = 0 ∷ []; ids = []; lstrip = []; rstri
 unfoldable pub noSteps : List Step
 noSteps = replicate 16 (Strip false false)
 
--- "Fallback for those two bytes": A9 has 7, C3 has 6.
+-- A9 has 7, C3 has 6, no other byte has one.
 unfoldable pub toyFallback : List ℕ
 toyFallback = replicate 0xA9 noId ++ (7 ∷ []) ++ replicate 25 noId ++ (6 ∷ []) ++ replicate 60 noId
 
--- Pieces 0 mark, 1 `a`, 2 `b`, 3 `ab`, 4 mark+`a`, 5 `.`, 6 byte C3, 7 byte A9. Rows (0,1)->4 rank 1, (1,2)->3 rank 0.
--- Metaspace Always, no split.
+-- Eight pieces: the mark, `a`, `b`, `ab`, mark and `a`, `.`, C3, A9.
 unfoldable pub T : Model
 T =
     record {
@@ -41,7 +40,7 @@ T =
       metaspace = Present Always false;
     }
 
--- "U adds 8 = `b`+mark+`a`, row (2,4)->8 rank 2."
+-- T with the piece `b`, mark, `a` as id 8 and its row.
 unfoldable pub U : Model
 U =
     record {

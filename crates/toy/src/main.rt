@@ -1,4 +1,4 @@
-// Document 01's toy models, run. Writes a line for each call: what it was given, and what it answered.
+// The toy models of rules 14.1 and 14.2, run. Writes a line for each call: what it was given, and what it answered.
 mod checks;
 mod normalising;
 mod tables;

@@ -1,8 +1,8 @@
-// Document 01's toy models as tables, and the faults that T's may have.
+// The toy models as tables (rules 14.1 and 14.2), and the faults that T's may have.
 use model::Span;
 use model::Step;
 
-// T: pieces 0 mark, 1 `a`, 2 `b`, 3 `ab`, 4 mark+`a`, 5 `.`, 6 byte C3, 7 byte A9; rows (0,1)->4 rank 1, (1,2)->3 rank 0.
+// T.
 const PIECES_T: [u8; 14] = [
     0xE2,
     0x96,
@@ -32,7 +32,7 @@ const RESULT_T: [u32; 2] = [4, 3];
 
 pub(crate) const RANK_T: [u32; 2] = [1, 0];
 
-// U adds 8 = `b`+mark+`a` and the row (2,4)->8 rank 2.
+// U: one piece and one row more.
 pub(crate) const PIECES_U: [u8; 19] = [
     0xE2,
     0x96,

@@ -1,78 +1,39 @@
 -- Where a unit starts, no piece reaches from the spelling of what stands before into that of what follows. Assumes nothing.
-use Prim.Native.Nat.{ℕ, zero, suc, _+_, _-_, _≤_, _<_}
+use Prim.Native.Nat.{ℕ, suc, _+_, _-_, _<_}
 use native.Mathlib.Omega.{arith}
-use native.Mathlib.Nat.{suc-ne-zero, zero-add}
-use mathlib.Core.Path.{_≡_, refl, sym, ap, ap₂, _∙_, subst}
+use native.Mathlib.Nat.{zero-add}
+use mathlib.Core.Path.{_≡_, refl, sym, ap, ap₂, _∙_}
 use mathlib.Core.Bool.{Bool, true, false, not, cond, _&&_, _||_, and-false}
 use mathlib.Core.Logic.{_⊎_, inl, inr, ⊎-elim}
-use mathlib.Core.List.{List, [], _∷_, _++_, map, append-assoc, append-nil}
-use borrow.Author.Tests.{eqb-true, eqb-false, eq-eqb, ne-eqb, ltb-true, ltb-false, lt-ltb, not-false, not-true}
+use mathlib.Core.List.{List, [], _∷_, _++_, append-assoc, append-nil}
+use borrow.Author.Tests.{eqb-true, eq-eqb, ltb-true, ltb-false, lt-ltb, not-true}
 use lib.Dec.{eqb, ltb}
-use lib.ListN.{length, take, drop, getD, length-append, length-drop, take-append-drop, drop-of-length-le, List·getD-eq-default}
+use lib.ListN.{length, take, drop, getD, length-append, take-append-drop, drop-of-length-le, List·getD-eq-default}
 use lib.Seq.{take-append-seam, drop-append-seam, drop-append-add, drop-drop, length-take-le, drop-cons, take-suc}
-use Rattle.utf8.specs.Lists.{all, any, filter, lastOr, join, joinMap, neighbours, neighboursFrom, below, same, startsWith, endsWith, within}
+use Rattle.utf8.specs.Lists.{any, filter, lastOr, neighbours, neighboursFrom, below, startsWith, endsWith, within}
 use Rattle.utf8.specs.Chars.{tail, charForms, charWidth, chars, isChar, valid}
 use Rattle.utf8.proofs.Tests.{either, clash, and-left, and-right, and-both, or-left, or-right, or-also}
 use Rattle.utf8.proofs.Lists.{lastOr-append}
-use Rattle.utf8.proofs.Places.{any-one, any-append, getD-countFrom, length-countFrom}
+use Rattle.utf8.proofs.Places.{any-one, getD-countFrom, length-countFrom}
 use Rattle.utf8.proofs.Characters.{startsInTail}
 use Rattle.utf8.proofs.Valid.{valid-append, valid-cut}
-use Rattle.utf8.proofs.Starts.{same-eq}
-use Rattle.utf8.proofs.Joins.{append-cancel, starts-rest, ends-append, valid-starts}
+use Rattle.utf8.proofs.Elements.{any-false-at, any-filter, any-map, any-joinMap, any-has}
+use Rattle.utf8.proofs.Joins.{append-cancel, starts-rest, ends-append, ends-split, snoc, valid-starts}
 use Rattle.model.specs.Model.{Model, piece, piecesOf}
-use Rattle.model.specs.Check.{neitherTextNorByte, badPiece}
+use Rattle.model.specs.Check.{badPiece}
 use Rattle.model.specs.Mark.{mark, space, markWidth, startsWithMark, endsWithMark}
 use Rattle.model.proofs.CheckLaws.{has-id}
+use Rattle.model.proofs.ReachLaws.{piece-valid, NoPieceOver}
 use Rattle.units.specs.Kinds.{Crossing, crossesAt, crossingAt, crossingsOf, crossings, holdsMark, isTangled, splits, wordSplit, isNone, kindOf}
 use Rattle.units.specs.Units.{spanned, markCuts, punctuation, holdsPair, byteBefore, punctuationCuts, cutBy, cut}
 use Rattle.units.specs.declared.WordSplit.{WordSplit}
 use Rattle.units.specs.declared.WordSplit.the-variants.{SpaceRuns, EveryMark, None}
 use Rattle.units.proofs.ShownLaws.{shownByte, shown, prefix, shown-append, shown-mark, shown-unmarked, mark-held, Complete, shown-start, shown-end, shown-plain, shown-ends-mark}
 
--- No piece is an end of the one string followed by a beginning of the other.
-abbrev pub NoPieceOver : List (List ℕ) → List ℕ → List ℕ → Type 0
-NoPieceOver pieces s t =
-    (front p q back : List ℕ) → 0 < length p → 0 < length q → s ≡ front ++ p → t ≡ q ++ back → (id : ℕ) → piece pieces id ≡ p ++ q → ⊥
-
--- ---- tests that nothing passes
-
-module _ {A : Type 0} where
-  pub any-false-at : (test : A → Bool) (xs : List A) (i : ℕ) (d : A) → any test xs ≡ false → i < length xs → test (getD xs i d) ≡ false
-  any-false-at test xs i d e h = ⊎-elim (λ t. clash e (any-one test xs i d h t)) (λ t. t) (either (test (getD xs i d)))
-
-  any-filter : (test p : A → Bool) (xs : List A) → any test (filter p xs) ≡ any (λ (x : A). p x && test x) xs
-  any-filter test p [] = refl
-  any-filter test p (x ∷ xs) = go (p x) (any-filter test p xs)
-    where
-      go : (b : Bool) → any test (filter p xs) ≡ any (λ (x : A). p x && test x) xs
-          → any test (cond b (x ∷ filter p xs) (filter p xs)) ≡ ((b && test x) || any (λ (x : A). p x && test x) xs)
-      go true e = ap (λ (t : Bool). test x || t) e
-      go false e = e
-
-module _ {A B : Type 0} where
-  any-map : (test : B → Bool) (f : A → B) (xs : List A) → any test (map f xs) ≡ any (λ (x : A). test (f x)) xs
-  any-map test f [] = refl
-  any-map test f (x ∷ xs) = ap (λ (t : Bool). test (f x) || t) (any-map test f xs)
-
-  any-joinMap : (test : B → Bool) (f : A → List B) (xs : List A) → any test (joinMap f xs) ≡ any (λ (x : A). any test (f x)) xs
-  any-joinMap test f [] = refl
-  any-joinMap test f (x ∷ xs) = any-append test (f x) (joinMap f xs) ∙ ap (λ (t : Bool). any test (f x) || t) (any-joinMap test f xs)
-
 and-rest : {a b : Bool} → a ≡ true → (a && b) ≡ false → b ≡ false
 and-rest {a} {b} p e = ap (λ (x : Bool). x && b) (sym p) ∙ e
 
 -- ---- pieces of an accepted model
-
--- A piece of two bytes or more is valid.
-pub piece-valid : (pieces : List (List ℕ)) (id : ℕ) → badPiece pieces ≡ false → 1 < length (piece pieces id) → valid (piece pieces id) ≡ true
-unfolding badPiece neitherTextNorByte piece
-piece-valid pieces id fine long =
-    let bad = any-false-at neitherTextNorByte pieces id [] fine (has-id pieces id (omega arith)) in
-    not-false (valid (piece pieces id)) (go (valid (piece pieces id)) (ap not (ne-eqb (length (piece pieces id)) 1 (λ q. omega arith))) bad)
-  where
-    go : (v : Bool) {t : Bool} → t ≡ true → (not v && t) ≡ false → not v ≡ false
-    go true p e = refl
-    go false p e = clash e p
 
 -- What no noted crossing passes, no crossing of a valid piece passes.
 pub crossing-tested : (pieces : List (List ℕ)) (test : Crossing → Bool) → any test (crossings pieces) ≡ false → (id k : ℕ) → valid (piece pieces id) ≡ true
@@ -152,11 +113,6 @@ crosses p post pos e =
     (and-both (lt-ltb 0 (length p) pos) (ap (startsWithMark false) (drop-append-seam p (mark ++ post))))
     (ap (λ (l : List ℕ). not (endsWithMark false l)) (take-append-seam p (mark ++ post)) ∙ ap (λ (b : Bool). not (cond b true false)) e)
 
-ends-split : (p t : List ℕ) → endsWith p t ≡ true → t ≡ take (length t - length p) t ++ p
-ends-split p t e =
-    sym (take-append-drop (length t - length p) t)
-    ∙ ap (λ (l : List ℕ). take (length t - length p) t ++ l) (sym (same-eq p (drop (length t - length p) t) e))
-
 module _ (raw virtual : Bool) (s : List ℕ) (some : 0 < length s) where
   -- An end of the spelling of a text that ends with no mark does not end with one either.
   ends-unmarked : (front p : List ℕ) → endsWithMark raw s ≡ false → prefix virtual ++ shown raw s ≡ front ++ p → endsWith mark p ≡ false
@@ -233,19 +189,6 @@ piece-holds pieces id x y p q e =
     (has-id pieces id (omega (arith, ap length e, length-append p (x ∷ y ∷ q))))
     (ap (λ (bytes : List ℕ). any (λ (n : ℕ × ℕ). eqb (n .0) x && eqb (n .1) y) (neighbours bytes)) e ∙ neighbour x y p q)
 
--- The last of a list that is not empty.
-record Snoc (l : List ℕ) : Type 0 where
-  front : List ℕ
-  last : ℕ
-  whole : l ≡ front ++ (last ∷ [])
-
-snoc : (l : List ℕ) → 0 < length l → Snoc l
-snoc [] pos = absurd (omega arith)
-snoc (x ∷ []) pos = record { front = []; last = x; whole = refl }
-snoc (x ∷ y ∷ l) pos =
-    let s = snoc (y ∷ l) (omega arith) in
-    record { front = x ∷ s .front; last = s .last; whole = ap {B = List ℕ} (λ r. x ∷ r) (s .whole) }
-
 -- A byte's spelling ends with the byte, or with 0x81 for a raw space.
 record ShownLast (raw : Bool) (b : ℕ) : Type 0 where
   front : List ℕ
@@ -306,14 +249,6 @@ module _ (pieces : List (List ℕ)) (raw virtual : Bool) (section : List ℕ) (i
 
 -- ---- where a unit starts
 
-any-has : (b : ℕ) (test : ℕ → Bool) (bs : List ℕ) → any (eqb b) bs ≡ true → all test bs ≡ true → test b ≡ true
-any-has b test [] e h = clash refl e
-any-has b test (c ∷ bs) e h = go (any-has b test bs) (eqb b c) refl e
-  where
-    go : (any (eqb b) bs ≡ true → all test bs ≡ true → test b ≡ true) → (t : Bool) → eqb b c ≡ t → (t || any (eqb b) bs) ≡ true → test b ≡ true
-    go rest true q e = ap test (eqb-true b c q) ∙ and-left (test c) (all test bs) h
-    go rest false q e = rest e (and-right (test c) (all test bs) h)
-
 punctuation-clear : (section : List ℕ) (i : ℕ) → any (eqb (getD section i 0)) punctuation ≡ true → startsInTail (drop i section) ≡ false
 unfolding punctuation
 punctuation-clear section i e =
@@ -370,7 +305,7 @@ cut-at kind noted holds raw section i e =
           (or-cases marks points (and-right (ltb 0 i) (marks || points) e));
     }
 
-mark-is : (kind : WordSplit) (noted : List Crossing) (raw : Bool) (section : List ℕ) (i : ℕ) → markCuts kind noted raw section i ≡ true → startsWithMark raw (drop i section) ≡ true
+pub mark-is : (kind : WordSplit) (noted : List Crossing) (raw : Bool) (section : List ℕ) (i : ℕ) → markCuts kind noted raw section i ≡ true → startsWithMark raw (drop i section) ≡ true
 unfolding markCuts
 mark-is SpaceRuns noted raw section i e =
     let a = startsWithMark raw (drop i section) in
@@ -386,9 +321,9 @@ cut-clear m raw section i e =
     ⊎-elim (λ m. mark-starts-clear raw (drop i section) (mark-is _ _ raw section i m)) (λ p. punctuation-clear section i (p .is-one))
     (cut-at (kindOf m) (crossings (piecesOf m)) (holdsPair (piecesOf m)) raw section i e .either)
 
--- A section whose units no piece reaches across: of kind SpaceRuns, or of kind EveryMark with no mark behind its first byte.
+-- A section whose units no piece reaches across: of kind EveryMark, one with no mark behind its first byte; of another kind, any.
 abbrev pub Closed : Model → Bool → List ℕ → Type 0
-Closed m raw section = (kindOf m ≡ SpaceRuns) ⊎ ((kindOf m ≡ EveryMark) × ((p : ℕ) → 0 < p → startsWithMark raw (drop p section) ≡ false))
+Closed m raw section = kindOf m ≡ EveryMark → (p : ℕ) → 0 < p → startsWithMark raw (drop p section) ≡ false
 
 untangled : (m : Model) → kindOf m ≡ SpaceRuns → any isTangled (crossings (piecesOf m)) ≡ false
 unfolding kindOf wordSplit
@@ -410,16 +345,18 @@ pub cut-uncrossed : (m : Model) → badPiece (piecesOf m) ≡ false → (raw vir
 unfolding cut markCuts
 cut-uncrossed m fine raw virtual section closed i e =
     let c = cut-at (kindOf m) (crossings (piecesOf m)) (holdsPair (piecesOf m)) raw section i e in
-    ⊎-elim (λ marks. ⊎-elim (runs (c .behind) marks) (λ every. clash (every .1 i (c .behind)) (mark-is (kindOf m) (crossings (piecesOf m)) raw section i marks)) closed)
+    ⊎-elim (λ marks. at-mark (kindOf m) refl (c .behind) marks)
     (λ p. punctuation-uncrossed (piecesOf m) raw virtual section i (c .behind) (p .is-one) (p .unheld)) (c .either)
   where
-    runs : 0 < i → markCuts (kindOf m) (crossings (piecesOf m)) raw section i ≡ true → kindOf m ≡ SpaceRuns → NoPieceOver (piecesOf m) (prefix virtual ++ shown raw (take i section)) (shown raw (drop i section))
-    runs pos marks k =
+    at-mark : (k : WordSplit) → kindOf m ≡ k → 0 < i → markCuts k (crossings (piecesOf m)) raw section i ≡ true
+        → NoPieceOver (piecesOf m) (prefix virtual ++ shown raw (take i section)) (shown raw (drop i section))
+    at-mark None k pos marks = clash refl marks
+    at-mark EveryMark k pos marks = clash (closed k i pos) marks
+    at-mark SpaceRuns k pos marks =
         let noted = crossings (piecesOf m) in
         let a = startsWithMark raw (drop i section) in
         let b = not (endsWithMark raw (take i section)) in
         let s = not (spanned noted raw section i) in
-        let all-three : (a && b && s) ≡ true = ap (λ (k : WordSplit). markCuts k noted raw section i) (sym k) ∙ marks in
-        let two : (a && b) ≡ true = and-left (a && b) s all-three in
+        let two : (a && b) ≡ true = and-left (a && b) s marks in
         mark-uncrossed (piecesOf m) fine raw virtual section i pos (mark-inside raw section i (and-left a b two)) (untangled m k) (and-left a b two)
-        (not-true (endsWithMark raw (take i section)) (and-right a b two)) (not-true (spanned noted raw section i) (and-right (a && b) s all-three))
+        (not-true (endsWithMark raw (take i section)) (and-right a b two)) (not-true (spanned noted raw section i) (and-right (a && b) s marks))

@@ -1,50 +1,51 @@
 -- Units laid end to end: they join to the section, their characters are its characters, and no piece reaches over a border.
 -- Assumes nothing.
-use Prim.Native.Nat.{ℕ, zero, suc, _+_, _-_, _≤_, _<_}
+use Prim.Native.Nat.{ℕ, zero, suc, _+_, _≤_}
 use native.Mathlib.Omega.{arith}
-use native.Mathlib.Nat.{suc-ne-zero, zero-add}
-use mathlib.Core.Path.{_≡_, refl, sym, ap, ap₂, _∙_, subst}
+use native.Mathlib.Nat.{zero-add}
+use mathlib.Core.Path.{_≡_, refl, sym, ap, _∙_, subst}
 use mathlib.Core.Bool.{Bool, true, false, cond, false≢true}
-use mathlib.Core.List.{List, [], _∷_, _++_, map, append-assoc, append-nil}
-use lib.ListN.{length, take, drop, length-append, length-take, take-append-drop}
-use lib.Seq.{slice, take-all, take-length, length-take-le, drop-append-le}
-use Rattle.utf8.specs.Lists.{filter, join, joinMap, countFrom, below, between}
+use mathlib.Core.List.{List, [], _∷_, _++_, map, append-nil}
+use lib.ListN.{length, take, drop, take-append-drop}
+use lib.Seq.{slice, take-all, length-take-le, drop-append-le}
+use Rattle.utf8.specs.Lists.{filter, join, joinMap, countFrom, between}
 use Rattle.utf8.specs.Chars.{chars}
 use Rattle.utf8.proofs.Characters.{startsInTail, chars-append}
 use Rattle.utf8.proofs.Joins.{joinMap-join}
 use Rattle.model.specs.Model.{Model, piecesOf}
 use Rattle.model.specs.Check.{badPiece}
+use Rattle.model.proofs.ReachLaws.{NoPieceOver, StringsApart, over-less, over-nothing}
 use Rattle.units.specs.Units.{cut, units}
 use Rattle.units.proofs.ShownLaws.{shownByte, shown, prefix, shown-append}
-use Rattle.units.proofs.CutLaws.{NoPieceOver, Closed, cut-clear, cut-uncrossed}
-
--- No piece reaches over a border of the strings.
-abbrev pub StringsApart : List (List ℕ) → List (List ℕ) → Type 0
-StringsApart pieces [] = Unit {0}
-StringsApart pieces (s ∷ strings) = NoPieceOver pieces s (join strings) × StringsApart pieces strings
+use Rattle.units.proofs.CutLaws.{Closed, cut-clear, cut-uncrossed}
 
 -- The spelling of units, with a virtual mark before the first.
 abbrev pub spelledUnits : Bool → Bool → List (List ℕ) → List (List ℕ)
 spelledUnits raw virtual [] = []
 spelledUnits raw virtual (unit ∷ units) = (prefix virtual ++ shown raw unit) ∷ map (shown raw) units
 
+pub unspelled : (raw : Bool) (us : List (List ℕ)) → spelledUnits raw false us ≡ map (shown raw) us
+unspelled raw [] = refl
+unspelled raw (u ∷ us) = refl
+
 -- The places that pass a test, and the end, cut a text into parts from a on.
-abbrev partsFrom : (ℕ → Bool) → ℕ → ℕ → ℕ → ℕ → List ℕ → List (List ℕ)
+abbrev pub partsFrom : (ℕ → Bool) → ℕ → ℕ → ℕ → ℕ → List ℕ → List (List ℕ)
 partsFrom test a f k n s = between (a ∷ filter test (countFrom f k) ++ (n ∷ [])) s
 
-over-less : (pieces : List (List ℕ)) (x s t : List ℕ) → NoPieceOver pieces (x ++ s) t → NoPieceOver pieces s t
-over-less pieces x s t none front p q back p-some q-some before after id is =
-    none (x ++ front) p q back p-some q-some (ap (λ (l : List ℕ). x ++ l) before ∙ sym (append-assoc x front p)) after id is
-
-over-nothing : (pieces : List (List ℕ)) (s : List ℕ) → NoPieceOver pieces s []
-over-nothing pieces s front p [] back p-some q-some before after id is = omega arith
-over-nothing pieces s front p (x ∷ q) back p-some q-some before after id is = suc-ne-zero (length (q ++ back)) (sym (ap length after))
-
-part-ends : (s : List ℕ) (a f : ℕ) → a ≤ f → f ≤ length s → slice a f s ++ drop f s ≡ drop a s
+pub part-ends : (s : List ℕ) (a f : ℕ) → a ≤ f → f ≤ length s → slice a f s ++ drop f s ≡ drop a s
 part-ends s a f h k = sym (drop-append-le a (take f s) (drop f s) (omega (arith, length-take-le f s k))) ∙ ap (drop a) (take-append-drop f s)
 
+-- What stands before the end of a part ends with the part.
+pub part-before : (s : List ℕ) (pieces : List (List ℕ)) (raw virtual : Bool) (a f : ℕ) → (virtual ≡ true → a ≡ 0) → NoPieceOver pieces (prefix virtual ++ shown raw (take f s)) (shown raw (drop f s))
+    → NoPieceOver pieces (prefix virtual ++ shown raw (slice a f s)) (shown raw (drop f s))
+part-before s pieces raw true a f z none =
+    subst (λ (n : ℕ). NoPieceOver pieces (prefix true ++ shown raw (slice n f s)) (shown raw (drop f s))) (sym (z refl)) none
+part-before s pieces raw false a f z none =
+    over-less pieces (shown raw (take a (take f s))) (shown raw (slice a f s)) (shown raw (drop f s))
+    (subst (λ (l : List ℕ). NoPieceOver pieces l (shown raw (drop f s))) (ap (shown raw) (sym (take-append-drop a (take f s))) ∙ shown-append raw (take a (take f s)) (slice a f s)) none)
+
 module _ (test : ℕ → Bool) (s : List ℕ) where
-  parts-join : (k a f n : ℕ) → a ≤ f → f + k ≡ n → n ≡ length s → join (partsFrom test a f k n s) ≡ drop a s
+  pub parts-join : (k a f n : ℕ) → a ≤ f → f + k ≡ n → n ≡ length s → join (partsFrom test a f k n s) ≡ drop a s
   parts-join zero a f n h e l = append-nil (slice a n s) ∙ ap (λ (t : List ℕ). drop a t) (take-all n s (omega arith))
   parts-join (suc k) a f n h e l = go (parts-join k a (suc f) n (omega arith) (omega arith) l) (parts-join k f (suc f) n (omega arith) (omega arith) l) (test f)
     where
@@ -68,19 +69,6 @@ module _ (test : ℕ → Bool) (s : List ℕ) where
 
   module _ (pieces : List (List ℕ)) (raw : Bool)
       (uncrossed : (virtual : Bool) (i : ℕ) → test i ≡ true → NoPieceOver pieces (prefix virtual ++ shown raw (take i s)) (shown raw (drop i s))) where
-    -- what stands before the end of a part ends with the part
-    part-before : (virtual : Bool) (a f : ℕ) → (virtual ≡ true → a ≡ 0) → NoPieceOver pieces (prefix virtual ++ shown raw (take f s)) (shown raw (drop f s))
-        → NoPieceOver pieces (prefix virtual ++ shown raw (slice a f s)) (shown raw (drop f s))
-    part-before true a f z none =
-        subst (λ (n : ℕ). NoPieceOver pieces (prefix true ++ shown raw (slice n f s)) (shown raw (drop f s))) (sym (z refl)) none
-    part-before false a f z none =
-        over-less pieces (shown raw (take a (take f s))) (shown raw (slice a f s)) (shown raw (drop f s))
-        (subst (λ (l : List ℕ). NoPieceOver pieces l (shown raw (drop f s))) (ap (shown raw) (sym (take-append-drop a (take f s))) ∙ shown-append raw (take a (take f s)) (slice a f s)) none)
-
-    unspelled : (us : List (List ℕ)) → spelledUnits raw false us ≡ map (shown raw) us
-    unspelled [] = refl
-    unspelled (u ∷ us) = refl
-
     parts-apart : (k a f n : ℕ) (virtual : Bool) → (virtual ≡ true → a ≡ 0) → f + k ≡ n → n ≡ length s → StringsApart pieces (spelledUnits raw virtual (partsFrom test a f k n s))
     parts-apart zero a f n virtual z e l = (over-nothing pieces (prefix virtual ++ shown raw (slice a n s)), tt)
     parts-apart (suc k) a f n virtual z e l =
@@ -94,8 +82,8 @@ module _ (test : ℕ → Bool) (s : List ℕ) where
         go on here joined true t = (
           subst (NoPieceOver pieces (prefix virtual ++ shown raw (slice a f s)))
               (sym (joinMap-join (shownByte raw) (partsFrom test f (suc f) k n s) ∙ ap (shown raw) joined))
-              (part-before virtual a f z (uncrossed virtual f t)),
-          subst (StringsApart pieces) (unspelled (partsFrom test f (suc f) k n s)) here,
+              (part-before s pieces raw virtual a f z (uncrossed virtual f t)),
+          subst (StringsApart pieces) (unspelled raw (partsFrom test f (suc f) k n s)) here,
         )
 
 module _ (m : Model) (raw : Bool) (section : List ℕ) where

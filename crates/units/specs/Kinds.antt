@@ -20,12 +20,12 @@ use Rattle.units.specs.declared.RawPrepend.the-variants as prepend
 use Rattle.units.specs.declared.RawPath.{RawPath}
 use Rattle.units.specs.declared.RawPath.the-variants as raw
 
--- "(pre, post) are the parts around it."
+-- What stands before and behind the mark at which a piece crosses (rule 5.1).
 pub record Crossing : Type 0 where
   pub pre : List ℕ
   pub post : List ℕ
 
--- "A mark after a non-mark character", where p is the mark's place.
+-- The bytes cross at p: a mark stands there behind a character that is none.
 unfoldable pub crossesAt : List ℕ → ℕ → Bool
 crossesAt bytes p = ltb 0 p && startsWithMark false (drop p bytes) && not (endsWithMark false (take p bytes))
 
@@ -35,7 +35,7 @@ crossingAt bytes p = record { pre = take p bytes; post = drop (p + 3) bytes }
 unfoldable pub crossingsOf : List ℕ → List Crossing
 crossingsOf bytes = map (crossingAt bytes) (filter (crossesAt bytes) (below (length bytes)))
 
--- "Look at each UTF-8 piece."
+-- The crossings of all pieces, in the order of the pieces.
 unfoldable pub crossings : List (List ℕ) → List Crossing
 crossings pieces = joinMap crossingsOf (filter valid pieces)
 
@@ -43,7 +43,7 @@ crossings pieces = joinMap crossingsOf (filter valid pieces)
 unfoldable pub holdsMark : List ℕ → Bool
 holdsMark bytes = any (λ (p : ℕ). startsWithMark true (drop p bytes)) (below (length bytes))
 
--- "Pre or post holds a mark or a space."
+-- Rule 5.2.
 unfoldable pub isTangled : Crossing → Bool
 isTangled c = holdsMark (c .pre) || holdsMark (c .post)
 
@@ -51,8 +51,7 @@ unfoldable pub splits : Metaspace → Bool
 splits Absent = false
 splits (Present prepend split) = split
 
--- "Metaspace with split: EveryMark." "If pre or post holds a mark or a space, or 32 are already noted (equal pieces count again),
--- the kind is None. Else SpaceRuns."
+-- Rules 5.3 and 5.4: the kind, from all crossings and metaspace.
 unfoldable pub wordSplit : List Crossing → Metaspace → WordSplit
 wordSplit noted metaspace =
     cond (splits metaspace) kind.EveryMark (cond (any isTangled noted || ltb 32 (length noted)) kind.None kind.SpaceRuns)
@@ -60,14 +59,14 @@ wordSplit noted metaspace =
 unfoldable pub kindOf : Model → WordSplit
 kindOf m = wordSplit (crossings (piecesOf m)) (m .metaspace)
 
--- "Prepend mark".
+-- A Prepend of one mark.
 unfoldable pub isPrependMark : List ℕ → Step → Bool
 isPrependMark bytes (Prepend content) = same (stepString bytes content) mark
 isPrependMark bytes (Replace pattern content) = false
 isPrependMark bytes (CollapseSpaces content) = false
 isPrependMark bytes (Strip left right) = false
 
--- "Replace space by mark".
+-- Rule 6.2: the step turns spaces into marks.
 unfoldable pub isSpaceReplace : List ℕ → Step → Bool
 isSpaceReplace bytes (Prepend content) = false
 isSpaceReplace bytes (Replace pattern content) = same (stepString bytes pattern) space && same (stepString bytes content) mark
@@ -78,7 +77,7 @@ unfoldable pub isPresent : Metaspace → Bool
 isPresent Absent = false
 isPresent (Present prepend split) = true
 
--- "GuardedAlways, GuardedFirst or Never by the scheme (Never without metaspace)."
+-- Rule 6.4: what the scheme makes of the path.
 unfoldable pub prependOf : Metaspace → RawPrepend
 prependOf Absent = prepend.Never
 prependOf (Present scheme.Never split) = prepend.Never
@@ -98,7 +97,7 @@ isNone kind.None = true
 isNone kind.SpaceRuns = false
 isNone kind.EveryMark = false
 
--- "Raw path: none for kind None or where the second token list is non-empty."
+-- Rule 6.1: the raw path, if there is one.
 unfoldable pub rawPath : Model → RawPath
 rawPath m =
     cond (isNone (kindOf m) || not (isEmpty (contents (m .second)))) raw.Absent (rawPathOf (m .stepBytes) (stepsOf m) (m .metaspace))

@@ -1,22 +1,24 @@
 -- Laws of lists that are joined, of what a text starts and ends with, and of parts of valid texts. Assumes nothing.
-use Prim.Native.Nat.{ℕ, zero, suc, _+_, _-_, _<_}
+use Prim.Native.Nat.{ℕ, zero, suc, _-_, _<_, max}
 use native.Mathlib.Omega.{arith}
 use native.Mathlib.Nat.{suc-ne-zero}
 use mathlib.Core.Path.{_≡_, refl, sym, ap, ap₂, _∙_}
-use mathlib.Core.Bool.{Bool, true, false, cond, _&&_}
-use mathlib.Core.List.{List, [], _∷_, _++_, map, append-assoc, map-append}
-use mathlib.Core.Option.{Option, none, some, Option·none-ne-some, Option·some-injective}
-use borrow.Author.Tests.{eq-eqb}
-use lib.Dec.{eqb}
-use lib.ListN.{length, take, drop, getD, length-append, take-append-drop}
-use lib.Seq.{drop-append-seam, drop-at}
-use Rattle.utf8.specs.Lists.{all, find, join, joinMap, same, startsWith, endsWith, within}
-use Rattle.utf8.specs.Chars.{tail, charWidth, chars, valid}
-use Rattle.utf8.proofs.Tests.{and-left, and-right, and-both, clash}
-use Rattle.utf8.proofs.Lists.{join-append}
-use Rattle.utf8.proofs.Characters.{startsInTail, char-starts, chars-append}
+use mathlib.Core.Bool.{Bool, true, false, not, cond, _&&_}
+use mathlib.Core.Logic.{⊎-elim}
+use mathlib.Core.List.{List, [], _∷_, _++_, map, append-assoc}
+use mathlib.Core.Option.{some, Option·none-ne-some, Option·some-injective}
+use borrow.Author.Tests.{eq-eqb, ltb-true, ltb-false, lt-ltb}
+use lib.Dec.{ltb}
+use lib.ListN.{length, take, drop, getD, length-append, length-take, length-drop, take-append-drop}
+use lib.Seq.{drop-append-seam, drop-at, getD-take}
+use Rattle.utf8.specs.Lists.{isEmpty, all, find, join, joinMap, same, startsWith, endsWith, within}
+use Rattle.utf8.specs.Chars.{tail, charForms, charWidth, chars, valid}
+use Rattle.utf8.proofs.Tests.{either, within-low, and-left, and-right, and-both, clash}
+use Rattle.utf8.proofs.Lists.{by-length}
+use Rattle.utf8.proofs.Characters.{startsInTail, char-starts, charWidth-lead, charWidth-le-length, char-tails, chars-nil, chars-step, chars-append}
 use Rattle.utf8.proofs.Valid.{starts-with-char, valid-append, valid-cut, chars-valid-append}
-use Rattle.utf8.proofs.Starts.{starts-front, same-refl, same-eq}
+use Rattle.utf8.proofs.Starts.{not-empty, starts-front, same-refl, same-eq}
+use Rattle.utf8.proofs.Elements.{all-by-places}
 
 module _ {ℓ} {A : Type ℓ} where
   pub append-cancel : (xs ys zs : List A) → xs ++ ys ≡ xs ++ zs → ys ≡ zs
@@ -61,6 +63,24 @@ starts-rest p t e = sym (take-append-drop (length p) t) ∙ ap (λ (l : List ℕ
 
 pub ends-append : (s p : List ℕ) → endsWith p (s ++ p) ≡ true
 ends-append s p = ap (same p) (drop-at s p (length (s ++ p) - length p) (omega (arith, length-append s p))) ∙ same-refl p
+
+pub ends-split : (p t : List ℕ) → endsWith p t ≡ true → t ≡ take (length t - length p) t ++ p
+ends-split p t e =
+    sym (take-append-drop (length t - length p) t)
+    ∙ ap (λ (l : List ℕ). take (length t - length p) t ++ l) (sym (same-eq p (drop (length t - length p) t) e))
+
+-- The last of a list that is not empty.
+pub record Snoc (l : List ℕ) : Type 0 where
+  pub front : List ℕ
+  pub last : ℕ
+  pub whole : l ≡ front ++ (last ∷ [])
+
+pub snoc : (l : List ℕ) → 0 < length l → Snoc l
+snoc [] pos = absurd (omega arith)
+snoc (x ∷ []) pos = record { front = []; last = x; whole = refl }
+snoc (x ∷ y ∷ l) pos =
+    let s = snoc (y ∷ l) (omega arith) in
+    record { front = x ∷ s .front; last = s .last; whole = ap {B = List ℕ} (λ r. x ∷ r) (s .whole) }
 
 -- ---- parts of a text
 
@@ -125,3 +145,28 @@ module _ (x y z : List ℕ) (pos : 0 < length y) (v : valid y ≡ true) where
 
   pub chars-part : chars (x ++ (y ++ z)) ≡ chars x ++ (chars y ++ chars z)
   chars-part = chars-append x (y ++ z) inside-starts ∙ ap (λ (cs : List (List ℕ)). chars x ++ cs) (chars-valid-append y z v)
+
+-- No element of `chars` is empty.
+pub chars-some : (t : List ℕ) → all (λ (c : List ℕ). not (isEmpty c)) (chars t) ≡ true
+chars-some = by-length (λ (t : List ℕ). all (λ (c : List ℕ). not (isEmpty c)) (chars t) ≡ true) turn
+  where
+    turn : (t : List ℕ) → ((u : List ℕ) → length u < length t → all (λ (c : List ℕ). not (isEmpty c)) (chars u) ≡ true) → all (λ (c : List ℕ). not (isEmpty c)) (chars t) ≡ true
+    turn [] rest = ap (all (λ (c : List ℕ). not (isEmpty c))) chars-nil
+    turn (b ∷ t) rest =
+        let w = max 1 (charWidth (b ∷ t)) in
+        ap (all (λ (c : List ℕ). not (isEmpty c))) (chars-step (b ∷ t) (omega arith))
+        ∙ and-both (ap not (not-empty (take w (b ∷ t)) (omega (arith, length-take w (b ∷ t))))) (rest (drop w (b ∷ t)) (omega (arith, length-drop w (b ∷ t))))
+
+-- No byte of a character of two bytes or more is below 0x80.
+pub wide-high : (t : List ℕ) → 1 < charWidth t → all (ltb 0x7F) (take (charWidth t) t) ≡ true
+unfolding charForms
+wide-high t wide = all-by-places (ltb 0x7F) (take (charWidth t) t) 0 at
+  where
+    high : (i : ℕ) → i < charWidth t → 0x7F < getD t i 0
+    high zero h = ⊎-elim (λ e. ltb-true 0x7F (getD t 0 0) e) (λ e. absurd (omega (arith, charWidth-lead 0 t (omega (arith, charWidth-le-length t)) (omega arith) (ltb-false 0x7F (getD t 0 0) e)))) (either (ltb 0x7F (getD t 0 0)))
+    high (suc i) h = within-low tail (getD t (suc i) 0) (char-tails t (suc i) (omega arith) h)
+
+    at : (i : ℕ) → i < length (take (charWidth t) t) → ltb 0x7F (getD (take (charWidth t) t) i 0) ≡ true
+    at i h =
+        let inside : i < charWidth t = omega (arith, length-take (charWidth t) t) in
+        lt-ltb 0x7F (getD (take (charWidth t) t) i 0) (rw (getD-take (charWidth t) t i 0 inside) (high i inside))

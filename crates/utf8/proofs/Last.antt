@@ -8,7 +8,8 @@ use mathlib.Core.List.{List, [], _∷_, _++_, append-nil, append-assoc}
 use lib.ListN.{length, take, drop, length-append, length-take, length-drop, take-append-drop}
 use lib.Seq.{take-at, drop-at, length-take-le}
 use Rattle.utf8.specs.Lists.{lastOr}
-use Rattle.utf8.specs.Chars.{charWidth, chars, lastWidth}
+use Rattle.utf8.specs.Chars.{charWidth, chars}
+use Rattle.utf8.specs.inner.Ends.{lastWidth}
 use Rattle.utf8.proofs.Lists.{by-length, lastOr-append}
 use Rattle.utf8.proofs.Characters.{charWidth-nil, charWidth-le-length, charWidth-le-four, charWidth-take, charWidth-first, chars-nil, chars-step, chars-last}
 

@@ -12,5 +12,6 @@ pub mod Trim
 pub mod Starts
 pub mod Writing
 pub mod Counts
-pub mod Joins
 pub mod Fronts
+pub mod Elements
+pub mod Joins

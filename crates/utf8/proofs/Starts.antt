@@ -1,16 +1,16 @@
 -- Laws of what a list starts with. Assumes nothing.
-use Prim.Native.Nat.{ℕ, zero, suc, _+_, _≤_, _<_}
+use Prim.Native.Nat.{ℕ, zero, suc, _+_, _-_, _≤_, _<_}
 use native.Mathlib.Omega.{arith}
 use native.Mathlib.Numerals.{add-one}
 use mathlib.Core.Path.{_≡_, refl, sym, ap, ap₂, _∙_}
-use mathlib.Core.Bool.{true, false, _&&_}
+use mathlib.Core.Bool.{Bool, true, false, _&&_, and-false}
 use mathlib.Core.Logic.{⊎-elim}
 use mathlib.Core.List.{List, [], _∷_}
 use borrow.Author.Tests.{eqb-true, eq-eqb, ne-eqb}
 use lib.Dec.{eqb}
-use lib.ListN.{length, take, drop, getD, drop-of-length-le}
+use lib.ListN.{length, take, drop, getD, length-drop, drop-of-length-le}
 use lib.Seq.{drop-cons}
-use Rattle.utf8.specs.Lists.{isEmpty, startsWith, same}
+use Rattle.utf8.specs.Lists.{isEmpty, startsWith, endsWith, same}
 use Rattle.utf8.proofs.Tests.{either, and-left, and-right, and-both, clash}
 
 module _ {ℓ} {A : Type ℓ} where
@@ -69,3 +69,25 @@ same-eq (x ∷ p) (y ∷ q) e = ap₂ {C = List ℕ} _∷_ (eqb-true x y (and-le
 -- No front is what a text does not start with.
 pub front-apart : (n : ℕ) (p t : List ℕ) → startsWith p t ≡ false → same (take n t) p ≡ false
 front-apart n p t e = ⊎-elim (λ s. clash e (ap (λ (l : List ℕ). startsWith l t) (sym (same-eq (take n t) p s)) ∙ starts-take n t)) (λ s. s) (either (same (take n t) p))
+
+-- Of two texts of one length, what one starts with is the whole of it.
+pub starts-whole : (p t : List ℕ) → length p ≡ length t → startsWith p t ≡ same p t
+starts-whole [] [] h = refl
+starts-whole [] (y ∷ t) h = absurd (omega arith)
+starts-whole (x ∷ p) [] h = absurd (omega arith)
+starts-whole (x ∷ p) (y ∷ t) h = ap (λ (b : Bool). eqb x y && b) (starts-whole p t (omega arith))
+
+pub apart-by-length : (p t : List ℕ) → length t < length p → same p t ≡ false
+apart-by-length [] t h = absurd (omega arith)
+apart-by-length (x ∷ p) [] h = refl
+apart-by-length (x ∷ p) (y ∷ t) h = rw (apart-by-length p t (omega arith)) (and-false (eqb x y))
+
+-- What a text ends with is what its last part starts with; a shorter text does not end with it.
+module _ (p t : List ℕ) where
+  pub ends-part : length p ≤ length t → startsWith p (drop (length t - length p) t) ≡ endsWith p t
+  ends-part h = starts-whole p (drop (length t - length p) t) (omega (arith, length-drop (length t - length p) t))
+
+  pub ends-short : length t < length p → endsWith p t ≡ false
+  ends-short h =
+      let none : length t - length p ≡ 0 = omega arith in
+      rw none (apart-by-length p t h)

@@ -11,8 +11,9 @@ use lib.Dec.{ltb}
 use lib.ListN.{length, take, drop, length-append, length-drop, drop-of-length-le}
 use lib.Seq.{length-take-le, take-length, take-all, take-take, take-at, drop-drop, drop-nil}
 use Rattle.utf8.specs.Lists.{dropWhile, lastOr, join}
-use Rattle.utf8.specs.Chars.{charWidth, chars, isChar, lastWidth, codePoint}
-use Rattle.utf8.specs.WhiteSpace.{isWhiteSpace, isWhite, whiteWidth, whiteEnd, trimStart, trimEnd}
+use Rattle.utf8.specs.Chars.{charWidth, chars, isChar, codePoint}
+use Rattle.utf8.specs.inner.Ends.{lastWidth, whiteWidth, whiteEnd}
+use Rattle.utf8.specs.WhiteSpace.{isWhiteSpace, isWhite, trimStart, trimEnd}
 use Rattle.utf8.proofs.Lists.{by-length}
 use Rattle.utf8.proofs.Characters.{charWidth-nil, charWidth-le-length, charWidth-take, chars-nil, chars-step, join-chars}
 use Rattle.utf8.proofs.Last.{Last, first-sort, last-of, lastOr-last, last-place, last-fits}

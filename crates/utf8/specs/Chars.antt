@@ -4,7 +4,7 @@ use mathlib.Core.Bool.{Bool, true, false, cond, _&&_}
 use mathlib.Core.List.{List, [], _∷_}
 use lib.Dec.{ltb}
 use lib.ListN.{length}
-use Rattle.utf8.specs.Lists.{all, takeWhile, lastOr, join, cutBy, Range, within}
+use Rattle.utf8.specs.Lists.{all, takeWhile, join, cutBy, Range, within}
 
 -- RFC 3629, section 4: UTF8-tail.
 abbrev pub tail : Range
@@ -42,10 +42,6 @@ charWidth bytes = widthAmong charForms bytes
 -- The characters of a text in their order. A byte that begins no character stands alone.
 unfoldable pub chars : List ℕ → List (List ℕ)
 chars text = cutBy charWidth text
-
--- The width of the character at the right end, 0 where none stands there.
-unfoldable pub lastWidth : List ℕ → ℕ
-lastWidth text = charWidth (lastOr [] (chars text))
 
 -- Of an element of `chars`: it is a character, and no stray byte.
 unfoldable pub isChar : List ℕ → Bool

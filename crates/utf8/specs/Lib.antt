@@ -1,3 +1,4 @@
 pub mod Lists
 pub mod Chars
 pub mod WhiteSpace
+pub mod inner

@@ -1,10 +1,9 @@
 -- Unicode's White_Space, and what it is to trim a text of it.
 use Prim.Native.Nat.{ℕ}
-use mathlib.Core.Bool.{Bool, cond, _&&_}
+use mathlib.Core.Bool.{Bool, _&&_}
 use mathlib.Core.List.{List, [], _∷_, reverse}
-use lib.ListN.{take}
-use Rattle.utf8.specs.Lists.{any, dropWhile, lastOr, join, Range, within}
-use Rattle.utf8.specs.Chars.{charWidth, chars, isChar, codePoint}
+use Rattle.utf8.specs.Lists.{any, dropWhile, join, Range, within}
+use Rattle.utf8.specs.Chars.{chars, isChar, codePoint}
 
 -- The characters that have the property White_Space, as ten ranges of code points.
 unfoldable pub whiteSpace : List Range
@@ -36,11 +35,3 @@ trimStart text = join (dropWhile isWhite (chars text))
 -- The text without the White_Space at its right end.
 unfoldable pub trimEnd : List ℕ → List ℕ
 trimEnd text = join (reverse (dropWhile isWhite (reverse (chars text))))
-
--- The width of the White_Space character at the left end, 0 where none stands there.
-unfoldable pub whiteWidth : List ℕ → ℕ
-whiteWidth text = let w = charWidth text in cond (isWhite (take w text)) w 0
-
--- The same at the right end.
-unfoldable pub whiteEnd : List ℕ → ℕ
-whiteEnd text = whiteWidth (lastOr [] (chars text))

@@ -5,7 +5,8 @@ ghost use mathlib.Core.List.{_∷_};
 ghost use Prim.Native.Nat.{_+_, _*_, _-_, _≤_};
 ghost use lib.ListN.{length, take, drop, replicate};
 ghost use Rattle.utf8.specs.Lists.{within};
-ghost use Rattle.utf8.specs.Chars.{tail, hasForm, charWidth, lastWidth, valid, longestValidPrefix, codePoint};
+ghost use Rattle.utf8.specs.Chars.{tail, hasForm, charWidth, valid, longestValidPrefix, codePoint};
+ghost use Rattle.utf8.specs.inner.Ends.{lastWidth};
 
 fn is_within(b: u8, low: u8, high: u8) -> bool
     ensures { λ r. ⌜ r ≡ within (low, high) b ⌝ }

@@ -4,7 +4,8 @@ use super::chars::last_width;
 use super::chars::number_of;
 ghost use mathlib.Core.Path.{_≡_};
 ghost use Rattle.utf8.specs.Lists.{within};
-ghost use Rattle.utf8.specs.WhiteSpace.{isWhiteSpace, whiteWidth, whiteEnd, trimStart, trimEnd};
+ghost use Rattle.utf8.specs.WhiteSpace.{isWhiteSpace, trimStart, trimEnd};
+ghost use Rattle.utf8.specs.inner.Ends.{whiteWidth, whiteEnd};
 
 // Code points from low to high.
 pub struct Range {

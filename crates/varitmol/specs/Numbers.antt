@@ -1,4 +1,4 @@
--- Steps and metaspace as a caller in C gives them. An exported function takes no enum, so they come as numbers: a kind and four
+-- Steps and metaspace as a caller in C gives them (rules 13.1 to 13.3). An exported function takes no enum, so they come as numbers: a kind and four
 -- numbers a step, and two numbers for metaspace.
 use Prim.Native.Nat.{ℕ, _+_, _*_}
 use mathlib.Core.Bool.{Bool, not, cond, _&&_, _||_}
@@ -16,15 +16,15 @@ use Rattle.model.specs.declared.Metaspace.{Metaspace}
 use Rattle.model.specs.declared.Metaspace.the-variants.{Absent, Present}
 use Rattle.model.specs.Answers.{ScratchOutcome, refused}
 
--- "Four numbers a step": the one at k of those of the step at i.
+-- The number at k of the four of the step at i.
 unfoldable pub stepNumber : List ℕ → ℕ → ℕ → ℕ
 stepNumber spans i k = getD spans (i * 4 + k) 0
 
--- "Place, length, place, length": the string whose place stands at k.
+-- The string whose place stands at k; its length is the number after it.
 unfoldable pub spanAt : List ℕ → ℕ → ℕ → Span
 spanAt spans i k = record { place = stepNumber spans i k; len = stepNumber spans i (k + 1) }
 
--- "0 Prepend, 1 Replace, 2 CollapseSpaces, 3 Strip"; "a Strip's flags are its first two numbers".
+-- The step of a kind and its numbers; a kind above 2 is read as a Strip here.
 unfoldable pub stepOf : ℕ → List ℕ → ℕ → Step
 stepOf kind spans i =
     cond (eqb kind 0) (Prepend (spanAt spans i 0))
@@ -37,11 +37,11 @@ stepOf kind spans i =
 unfoldable pub stepsFrom : List ℕ → List ℕ → List Step
 stepsFrom kinds spans = map (λ (i : ℕ). stepOf (getD kinds i 3) spans i) (below 16)
 
--- "1 Never, 2 Always, 3 First".
+-- The scheme of a metaspace that is present.
 unfoldable pub schemeOf : ℕ → PrependScheme
 schemeOf number = cond (eqb number 1) Never (cond (eqb number 2) Always First)
 
--- "0 absent"; "split 0 or 1".
+-- Metaspace from its two numbers.
 unfoldable pub metaspaceFrom : ℕ → ℕ → Metaspace
 metaspaceFrom metaspace split = cond (eqb metaspace 0) Absent (Present (schemeOf metaspace) (eqb split 1))
 
@@ -53,7 +53,7 @@ wrongStep spans step =
 unfoldable pub wrongSteps : List ℕ → List ℕ → Bool
 wrongSteps kinds spans = any (wrongStep spans) (numbered kinds)
 
--- "A kind, flag or scheme outside these, more than 16 kinds, or spans that are not four a kind answer 1."
+-- The numbers stand for no steps and metaspace.
 unfoldable pub wrongNumbers : List ℕ → List ℕ → ℕ → ℕ → Bool
 wrongNumbers kinds spans metaspace split =
     ltb 16 (length kinds) || not (eqb (length spans) (length kinds * 4)) || wrongSteps kinds spans || ltb 3 metaspace || ltb 1 split

@@ -3,7 +3,7 @@ use mathlib.Core.Path.{_≡_, sym, ap, _∙_}
 use mathlib.Core.Option.{some}
 use borrow.Author.Needs.{needs}
 use Rattle.model.specs.Model.{strings}
-use Rattle.model.specs.Search.{idAt, entryAt}
+use Rattle.model.specs.inner.Search.{idAt, entryAt}
 use Rattle.index.specs.inner.Find.{idFrom}
 use Rattle.index.proofs.find_id.Statement.{statement}
 use Rattle.index.proofs.find_id.Tie as tie

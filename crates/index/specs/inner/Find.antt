@@ -8,7 +8,7 @@ use lib.ListN.{length, getD}
 use Rattle.utf8.specs.Lists.{same}
 use Rattle.model.specs.Model.{noId}
 use Rattle.model.specs.Mark.{mark}
-use Rattle.model.specs.Search.{searched, pieceOrder, rowOrder, idAt}
+use Rattle.model.specs.inner.Search.{searched, pieceOrder, rowOrder, idAt}
 use Rattle.model.specs.declared.Found.{Found}
 
 -- The id that a number gives, where it does not stand for none.

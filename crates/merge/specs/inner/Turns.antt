@@ -6,7 +6,7 @@ use mathlib.Core.Option.{Option, none, some}
 use lib.Dec.{leb}
 use lib.ListN.{length, take, drop}
 use Rattle.model.specs.Model.{Row, rowsOf}
-use Rattle.model.specs.Search.{rowFound}
+use Rattle.model.specs.inner.Search.{rowFound}
 use Rattle.model.specs.Answers.{zeros}
 use Rattle.index.specs.inner.Find.{rowFrom}
 use Rattle.merge.specs.Merge.{Candidate, merged}

@@ -1,44 +1,43 @@
 -- `normalise::normalise_checked` meets its contract: by the first test that applies.
-use mathlib.Core.Path.{_≡_, sym, ap, _∙_}
-use Prim.Native.Nat.{ℕ, _≤_, _<_}
+use mathlib.Core.Path.{sym, _∙_}
 use borrow.Author.Needs.{needs}
-use lib.ListN.{length}
-use Rattle.utf8.specs.Chars.{longestValidPrefix}
-use Rattle.model.specs.declared.Answer.{Answer}
-use Rattle.model.specs.Model.{Model, modelOf, tokenList, stepsOf}
-use Rattle.model.specs.Answers.{ScratchOutcome, refused}
-use Rattle.normalise.specs.Normalise.{normaliseOutcome}
-use Rattle.normalise.proofs.NormalLaws.{long-text, bad-text, good-text}
+use Rattle.model.specs.Model.{modelOf, tokenList, stepsOf}
+use Rattle.normalise.proofs.NormalLaws.{Lent, long-text, bad-text, good-text}
 use Rattle.normalise.proofs.normalise_checked.Statement.{statement}
 use Rattle.normalise.proofs.normalise_checked.Tie as tie
 
--- the lent columns as a model
-abbrev lent : tie.Start → Model
+-- what the call is lent
+abbrev lent : tie.Start → Lent
 lent s =
-    modelOf (s .args .piece-bytes .now) (s .args .piece-offsets .now) (s .args .lookup .now) (s .args .fallback .now) (s .args .left .now) (s .args .right .now) (s .args .result .now) (s .args .rank .now)
-    (tokenList (s .args .first-bytes .now) (s .args .first-offsets .now) (s .args .first-ids .now) (s .args .first-lstrip .now) (s .args .first-rstrip .now))
-    (tokenList (s .args .second-bytes .now) (s .args .second-offsets .now) (s .args .second-ids .now) (s .args .second-lstrip .now) (s .args .second-rstrip .now))
-    (s .args .step-bytes .now) (s .args .steps) (s .args .step-count) (s .args .metaspace)
+    record {
+      model =
+          modelOf (s .args .piece-bytes .now) (s .args .piece-offsets .now) (s .args .lookup .now) (s .args .fallback .now) (s .args .left .now) (s .args .right .now) (s .args .result .now) (s .args .rank .now)
+          (tokenList (s .args .first-bytes .now) (s .args .first-offsets .now) (s .args .first-ids .now) (s .args .first-lstrip .now) (s .args .first-rstrip .now))
+          (tokenList (s .args .second-bytes .now) (s .args .second-offsets .now) (s .args .second-ids .now) (s .args .second-lstrip .now) (s .args .second-rstrip .now))
+          (s .args .step-bytes .now) (s .args .steps) (s .args .step-count) (s .args .metaspace);
+      text = s .args .text .now;
+      first = s .args .first;
+      out = s .args .out .now;
+      scratchA = s .args .scratch-a .now;
+      scratchB = s .args .scratch-b .now;
+    }
 
--- what the contract says of the call
-abbrev wanted : tie.Start → ScratchOutcome
-wanted s = normaliseOutcome (lent s) (s .args .text .now) (s .args .first) (s .args .out .now) (s .args .scratch-a .now) (s .args .scratch-b .now)
+-- the way back to the start from each point that needs it
+abbrev long : tie.Then1 → tie.Start
+long t = t .before .before .before .before .before .before .before .before .before .before .before .before .before .before .before .before .before .before .before .before .before .before .before .before
 
--- a refusal with the buffers as they were
-abbrev kept : tie.Start → Answer → ScratchOutcome
-kept s answer = record { answer = answer; out = s .args .out .now; scratchA = s .args .scratch-a .now; scratchB = s .args .scratch-b .now }
+abbrev sized : tie.Else1 → tie.Start
+sized e = e .before .before .before .before .before .before .before .before .before .before .before .before .before .before .before .before .before .before .before .before .before .before .before .before
 
-refused-long : (s : tie.Start) (answer : Answer) → answer ≡ refused 1 0 → 1048576 < length (s .args .text .now) → kept s answer ≡ wanted s
-refused-long s answer e h = ap (kept s) e ∙ sym (long-text (lent s) (s .args .text .now) (s .args .first) (s .args .out .now) (s .args .scratch-a .now) (s .args .scratch-b .now) h)
-
-refused-text : (s : tie.Start) (answer : Answer) (prefix : ℕ) → answer ≡ refused 9 prefix → prefix ≡ length (longestValidPrefix (s .args .text .now)) → length (s .args .text .now) ≤ 1048576 → (prefix ≡ length (s .args .text .now) → ⊥) → kept s answer ≡ wanted s
-refused-text s answer prefix e is h short = ap (kept s) (e ∙ ap (refused 9) is) ∙ sym (bad-text (lent s) (s .args .text .now) (s .args .first) (s .args .out .now) (s .args .scratch-a .now) (s .args .scratch-b .now) h (s .pre) (λ z. short (is ∙ z)))
+-- the way back to where the text was found valid
+abbrev valid-text : tie.After-slice-known6 → tie.Else2
+valid-text c = c .before .before .before .before .before .before .before .before .before .before
 
 refused-requires : tie.Need-refused-requires
 refused-requires c κs = search needs
 
 returns : tie.Need-returns
-returns c = refused-long (c .before .before .before .before .before .before .before .before .before .before .before .before .before .before .before .before .before .before .before .before .before .before .before .before .before) _ (c .refused .ensures) (c .before .if1 .taken)
+returns c = long-text (lent (long (c .before))) _ (c .refused .ensures) (c .before .if1 .taken)
 
 valid-prefix-requires : tie.Need-valid-prefix-requires
 valid-prefix-requires c κs = search needs
@@ -47,7 +46,9 @@ refused-requires-2 : tie.Need-refused-requires-2
 refused-requires-2 c κs = search needs
 
 returns-2 : tie.Need-returns-2
-returns-2 c = refused-text (c .before .before .before .before .before .before .before .before .before .before .before .before .before .before .before .before .before .before .before .before .before .before .before .before .before .before .before) _ _ (c .refused2 .ensures) (c .before .before .valid-prefix .ensures) (c .before .before .before .if1 .left) (c .before .if2 .taken)
+returns-2 c =
+    let e = c .before .before .before in
+    bad-text (lent (sized e)) _ _ (c .refused2 .ensures) (c .before .before .valid-prefix .ensures) (e .if1 .left) (sized e .pre) (c .before .if2 .taken)
 
 normalise-text-requires : tie.Need-normalise-text-requires
 normalise-text-requires c κs = search needs
@@ -64,9 +65,10 @@ same-length-3 c = search needs
 returns-3 : tie.Need-returns-3
 unfolding stepsOf
 returns-3 c =
-    let s = c .before .before .before .before .before .before .before .before .before .before .before .before .before .before .before .before .before .before .before .before .before .before .before .before .before .before .before .before .before .before .before .before .before .before .before .before in
+    let v = valid-text c in
+    let e = v .before .before in
     c .before .before .before .before .before .before .normalise-text .ensures
-    ∙ sym (good-text (lent s) (s .args .text .now) (s .args .first) (s .args .out .now) (s .args .scratch-a .now) (s .args .scratch-b .now) (c .before .before .before .before .before .before .before .before .before .before .before .before .if1 .left) (s .pre) (sym (c .before .before .before .before .before .before .before .before .before .before .before .valid-prefix .ensures) ∙ c .before .before .before .before .before .before .before .before .before .before .if2 .left))
+    ∙ sym (good-text (lent (sized e)) _ (v .before .valid-prefix .ensures) (e .if1 .left) (sized e .pre) (v .if2 .left))
 
 pub normalise-checked-spec : {M : Type 1} → statement M
 normalise-checked-spec =

@@ -1,6 +1,6 @@
 -- `normalise::run_if_present` meets its contract.
 use borrow.Author.Needs.{needs}
-use Rattle.normalise.specs.Run.{metaspaceRun}
+use Rattle.normalise.specs.inner.Run.{metaspaceRun}
 use Rattle.normalise.proofs.run_if_present.Statement.{statement}
 use Rattle.normalise.proofs.run_if_present.Tie as tie
 

@@ -4,7 +4,7 @@ use mathlib.Core.Path.{_≡_, refl, sym, _∙_}
 use Prim.Native.Nat.{_≤_, _-_}
 use borrow.Author.Needs.{needs}
 use lib.ListN.{length, drop}
-use Rattle.model.specs.Search.{byteOrder}
+use Rattle.model.specs.ByteOrder.{byteOrder}
 use Rattle.model.proofs.OrderLaws.{order-less, order-greater, order-next, order-longer, order-shorter, order-ended}
 use Rattle.model.proofs.compare.byte_order.Statement.{statement}
 use Rattle.model.proofs.compare.byte_order.Tie as tie

@@ -2,7 +2,7 @@
 use mathlib.Core.Path.{_≡_, sym, ap, _∙_}
 use borrow.Author.Needs.{needs}
 use Rattle.model.specs.declared.Order.the-variants.{Less, Equal, Greater}
-use Rattle.model.specs.Search.{byteOrder}
+use Rattle.model.specs.ByteOrder.{byteOrder}
 use Rattle.model.proofs.OrderLaws.{isEqual, same-is-equal}
 use Rattle.model.proofs.compare.equal.Statement.{statement}
 use Rattle.model.proofs.compare.equal.Tie as tie

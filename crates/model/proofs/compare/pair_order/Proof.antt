@@ -1,6 +1,6 @@
 -- `model::compare::pair_order` meets its contract: each answer by the tests that led there.
 use borrow.Author.Tests.{lt-ltb, le-ltb}
-use Rattle.model.specs.Search.{pairOrder}
+use Rattle.model.specs.inner.Search.{pairOrder}
 use Rattle.model.proofs.compare.pair_order.Statement.{statement}
 use Rattle.model.proofs.compare.pair_order.Tie as tie
 

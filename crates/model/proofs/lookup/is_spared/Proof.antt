@@ -1,5 +1,5 @@
 -- `model::lookup::is_spared` meets its contract.
-use Rattle.model.specs.Check.{isLong}
+use Rattle.model.specs.inner.Tests.{isLong}
 use Rattle.model.proofs.lookup.is_spared.Statement.{statement}
 use Rattle.model.proofs.lookup.is_spared.Tie as tie
 

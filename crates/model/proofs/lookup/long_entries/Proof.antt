@@ -8,7 +8,7 @@ use lib.ListN.{length}
 use Rattle.utf8.specs.Lists.{count}
 use Rattle.utf8.proofs.Counts.{tally, tally-start, tally-found, tally-next, tally-ended}
 use Rattle.model.specs.Model.{strings, piece}
-use Rattle.model.specs.Check.{isLong}
+use Rattle.model.specs.inner.Tests.{isLong}
 use Rattle.model.proofs.lookup.long_entries.Statement.{statement}
 use Rattle.model.proofs.lookup.long_entries.Tie as tie
 

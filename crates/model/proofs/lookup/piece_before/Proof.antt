@@ -1,7 +1,7 @@
 -- `model::lookup::piece_before` meets its contract.
 use borrow.Author.Needs.{needs}
 use Rattle.model.specs.Model.{piece}
-use Rattle.model.specs.Search.{isBefore}
+use Rattle.model.specs.ByteOrder.{isBefore}
 use Rattle.model.proofs.lookup.piece_before.Statement.{statement}
 use Rattle.model.proofs.lookup.piece_before.Tie as tie
 

@@ -2,7 +2,7 @@
 use mathlib.Core.Path.{ap}
 use borrow.Author.Needs.{needs}
 use Rattle.model.specs.Model.{piece}
-use Rattle.model.specs.Check.{isLong}
+use Rattle.model.specs.inner.Tests.{isLong}
 use Rattle.model.proofs.lookup.piece_long.Statement.{statement}
 use Rattle.model.proofs.lookup.piece_long.Tie as tie
 

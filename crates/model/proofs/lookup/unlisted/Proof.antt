@@ -8,8 +8,9 @@ use Rattle.utf8.specs.Lists.{isEmpty}
 use Rattle.utf8.proofs.Tests.{and-left, and-right}
 use Rattle.model.specs.declared.Found.{Found}
 use Rattle.model.specs.Model.{strings, piece}
-use Rattle.model.specs.Search.{foundPiece, isAt}
-use Rattle.model.specs.Check.{isListed, isLong, longMissing}
+use Rattle.model.specs.inner.Search.{foundPiece, isAt}
+use Rattle.model.specs.Check.{isListed}
+use Rattle.model.specs.inner.Tests.{isLong, longMissing}
 use Rattle.model.proofs.LookupLaws.{isMissing, listed-by}
 use Rattle.model.proofs.CompleteLaws.{spared}
 use Rattle.model.proofs.lookup.unlisted.Statement.{statement}

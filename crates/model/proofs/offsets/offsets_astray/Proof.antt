@@ -1,7 +1,7 @@
 -- `model::offsets::offsets_astray` meets its contract: each answer by the tests that led there.
 use borrow.Author.Needs.{needs}
 use borrow.Author.Tests.{not-true, not-false}
-use Rattle.model.specs.Check.{spanFails}
+use Rattle.model.specs.inner.Tests.{spanFails}
 use Rattle.model.proofs.offsets.offsets_astray.Statement.{statement}
 use Rattle.model.proofs.offsets.offsets_astray.Tie as tie
 

@@ -4,7 +4,7 @@ use Prim.Native.Nat.{_≤_, _-_}
 use borrow.Author.Needs.{needs}
 use borrow.Author.Tests.{not-true, not-false}
 use lib.ListN.{length}
-use Rattle.model.specs.Search.{isLess}
+use Rattle.model.specs.ByteOrder.{isLess}
 use Rattle.model.specs.Check.{rowsAscend}
 use Rattle.model.proofs.RowLaws.{ascendFrom, ascend-start, ascend-next, ascend-broken, ascend-ended}
 use Rattle.model.proofs.rows.rows_ascend.Statement.{statement}

@@ -2,7 +2,7 @@
 use mathlib.Core.Path.{_∙_}
 use native.Mathlib.Nat.{le-refl, min-eq-left}
 use borrow.Author.Needs.{needs}
-use Rattle.model.specs.Search.{foundPiece}
+use Rattle.model.specs.inner.Search.{foundPiece}
 use Rattle.model.proofs.search.find_piece.Statement.{statement}
 use Rattle.model.proofs.search.find_piece.Tie as tie
 

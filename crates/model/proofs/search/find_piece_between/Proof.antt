@@ -4,7 +4,7 @@ use borrow.Author.Needs.{needs}
 use lib.ListN.{length}
 use Rattle.model.specs.declared.Order.{Order}
 use Rattle.model.specs.Model.{strings, piece}
-use Rattle.model.specs.Search.{pieceOrder}
+use Rattle.model.specs.inner.Search.{pieceOrder}
 use Rattle.model.proofs.SearchLaws.{Halving, halving-start, halving-up, halving-down, halving-found, halving-none}
 use Rattle.model.proofs.search.find_piece_between.Statement.{statement}
 use Rattle.model.proofs.search.find_piece_between.Tie as tie

@@ -2,7 +2,7 @@
 use mathlib.Core.Path.{_∙_}
 use native.Mathlib.Nat.{le-refl, min-eq-left}
 use borrow.Author.Needs.{needs}
-use Rattle.model.specs.Search.{foundRow}
+use Rattle.model.specs.inner.Search.{foundRow}
 use Rattle.model.proofs.search.find_row.Statement.{statement}
 use Rattle.model.proofs.search.find_row.Tie as tie
 

@@ -3,7 +3,7 @@ use Prim.Native.Nat.{ℕ, _-_, min}
 use borrow.Author.Needs.{needs}
 use lib.ListN.{length}
 use Rattle.model.specs.declared.Order.{Order}
-use Rattle.model.specs.Search.{rowOrder}
+use Rattle.model.specs.inner.Search.{rowOrder}
 use Rattle.model.proofs.SearchLaws.{Halving, halving-start, halving-up, halving-down, halving-found, halving-none}
 use Rattle.model.proofs.search.find_row_between.Statement.{statement}
 use Rattle.model.proofs.search.find_row_between.Tie as tie

@@ -1,7 +1,8 @@
 -- `model::sizes::wrong_step_sizes` meets its contract: each answer by the tests that led there.
 use borrow.Author.Needs.{needs}
 use borrow.Author.Tests.{lt-ltb, le-ltb}
-use Rattle.model.specs.Check.{wrongStepSizes, spanTooLong, spanFails}
+use Rattle.model.specs.Check.{wrongStepSizes, spanTooLong}
+use Rattle.model.specs.inner.Tests.{spanFails}
 use Rattle.model.proofs.sizes.wrong_step_sizes.Statement.{statement}
 use Rattle.model.proofs.sizes.wrong_step_sizes.Tie as tie
 

@@ -2,7 +2,8 @@
 use borrow.Author.Needs.{needs}
 use borrow.Author.Tests.{eq-eqb, ne-eqb}
 use Rattle.model.specs.Model.{stepString}
-use Rattle.model.specs.Check.{spanTooLong, liesOutside, noText, spanFails}
+use Rattle.model.specs.Check.{spanTooLong, liesOutside, noText}
+use Rattle.model.specs.inner.Tests.{spanFails}
 use Rattle.model.proofs.steps.span_fails.Statement.{statement}
 use Rattle.model.proofs.steps.span_fails.Tie as tie
 

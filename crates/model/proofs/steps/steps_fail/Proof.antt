@@ -6,7 +6,8 @@ use borrow.Author.Needs.{needs}
 use lib.ListN.{take, drop}
 use Rattle.utf8.specs.Lists.{any}
 use Rattle.model.specs.declared.Step.the-variants.{Strip}
-use Rattle.model.specs.Check.{spanFails, stepSpans}
+use Rattle.model.specs.Check.{stepSpans}
+use Rattle.model.specs.inner.Tests.{spanFails}
 use Rattle.model.proofs.CheckLaws.{spans-found, spans-next, spans-ended}
 use Rattle.model.proofs.steps.steps_fail.Statement.{statement}
 use Rattle.model.proofs.steps.steps_fail.Tie as tie

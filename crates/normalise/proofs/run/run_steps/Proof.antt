@@ -4,7 +4,7 @@ use Prim.Native.Nat.{_+_, _-_, _≤_}
 use borrow.Author.Needs.{needs}
 use native.Mathlib.Omega.{arith}
 use lib.ListN.{length, take, drop, length-take}
-use Rattle.normalise.specs.Run.{Run, stepsRun}
+use Rattle.normalise.specs.inner.Run.{Run, stepsRun}
 use Rattle.normalise.proofs.RunLaws.{steps-next, steps-ended}
 use Rattle.normalise.proofs.run.run_steps.Statement.{statement}
 use Rattle.normalise.proofs.run.run_steps.Tie as tie

@@ -6,7 +6,8 @@ use mathlib.Core.List.{List}
 use native.Mathlib.Omega.{arith}
 use borrow.Author.Needs.{needs}
 use lib.ListN.{length, drop, length-drop}
-use Rattle.utf8.specs.WhiteSpace.{whiteWidth, trimStart}
+use Rattle.utf8.specs.WhiteSpace.{trimStart}
+use Rattle.utf8.specs.inner.Ends.{whiteWidth}
 use Rattle.utf8.proofs.Lists.{part-to-end}
 use Rattle.utf8.proofs.Characters.{charWidth-le-length}
 use Rattle.utf8.proofs.Trim.{whiteWidth-le, white-ends, trimStart-stops, trimStart-next}

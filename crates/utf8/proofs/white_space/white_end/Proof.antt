@@ -3,7 +3,7 @@ use Prim.Native.Nat.{ℕ, _-_}
 use mathlib.Core.Path.{sym, ap, _∙_}
 use native.Mathlib.Omega.{arith}
 use lib.ListN.{length, drop}
-use Rattle.utf8.specs.WhiteSpace.{whiteWidth}
+use Rattle.utf8.specs.inner.Ends.{whiteWidth}
 use Rattle.utf8.proofs.Lists.{part-to-end}
 use Rattle.utf8.proofs.Last.{lastWidth-le}
 use Rattle.utf8.proofs.Trim.{whiteEnd-by-width}

@@ -5,7 +5,8 @@ use mathlib.Core.Bool.{Bool, cond}
 use native.Mathlib.Omega.{arith}
 use lib.ListN.{take}
 use Rattle.utf8.specs.Chars.{codePoint}
-use Rattle.utf8.specs.WhiteSpace.{isWhiteSpace, whiteWidth}
+use Rattle.utf8.specs.WhiteSpace.{isWhiteSpace}
+use Rattle.utf8.specs.inner.Ends.{whiteWidth}
 use Rattle.utf8.proofs.Trim.{whiteWidth-le, whiteWidth-some}
 use borrow.Author.Needs.{needs}
 use Rattle.utf8.proofs.white_space.white_width.Statement.{statement}

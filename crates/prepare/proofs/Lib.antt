@@ -1,0 +1,5 @@
+-- Laws on what is derived of a model, and how it is laid out.
+pub mod WalkLaws
+pub mod LayoutLaws
+pub mod PutLaws
+pub mod PrepareLaws
