@@ -11,13 +11,16 @@ use borrow.Author.Tests.{ltb-true, ltb-false}
 use lib.Dec.{eqb, ltb}
 use lib.ListN.{length, drop, getD, set, drop-of-length-le, List·getD-eq-default}
 use lib.Seq.{drop-cons}
-use Rattle.utf8.specs.Lists.{any}
+use Rattle.utf8.specs.Lists.{any, same}
 use Rattle.utf8.proofs.Tests.{either}
 use Rattle.utf8.proofs.Places.{any-next, any-found, getD-inside}
 use Rattle.model.specs.declared.Found.{Found}
 use Rattle.model.specs.declared.Found.the-variants.{At, Nothing}
 use Rattle.model.specs.Model.{strings, noId, fallbackId}
-use Rattle.model.specs.inner.Search.{foundPiece, idAt, foundId}
+use Rattle.model.specs.inner.Search.{searched, pieceOrder, entryAt, idAt, foundId}
+use Rattle.model.specs.Mark.{mark}
+use Rattle.index.specs.inner.Find.{keyStart, keyEnd, idFrom}
+use Rattle.index.specs.inner.Find as indexed
 use Rattle.merge.specs.declared.Own.the-variants.{Id, Missing}
 use Rattle.merge.specs.declared.Symbols.{Symbols}
 use Rattle.merge.specs.Start.{ifAny, isMissing, fallbackIds, lacksByte}
@@ -26,14 +29,29 @@ use Rattle.merge.proofs.Laying.{Laying, laying-start, laying-one, layin
 
 -- ---- a character's own id, by what the search gave
 
-module _ (bytes offsets lookup char : List ℕ) {f : Found} (found : f ≡ foundPiece (strings bytes offsets) lookup char) where
-  pub own-at : {i n : ℕ} → f ≡ At i → n ≡ getD lookup i 0 → idOf (Id n) ≡ ownFound bytes offsets lookup char
-  unfolding ownFound idAt
-  own-at e is = rw (← found, e, is)
+-- An id of tables of 32-bit numbers is one.
+pub own-below : (pieces : List (List ℕ)) (lookup firstBytes : List ℕ) (markId : ℕ) (char : List ℕ) {f : Found} {id : ℕ} → markId < 4294967296 → ((i : ℕ) → getD lookup i 0 < 4294967296)
+    → foundId f ≡ idFrom pieces lookup firstBytes markId char → f ≡ At id → id < 4294967296
+unfolding idFrom idAt indexed.idOf
+own-below pieces lookup firstBytes markId char {f} {id} small all told e = go (same char mark) (searched (pieceOrder pieces lookup char) (keyStart firstBytes char) (min (keyEnd firstBytes char) (length lookup))) (sym told ∙ ap foundId e)
+  where
+    marked : (b : Bool) → cond b none (some markId) ≡ some id → id < 4294967296
+    marked true q = absurd (Option·none-ne-some id q)
+    marked false q = rw (← Option·some-injective markId id q) small
 
-  pub own-missing : f ≡ Nothing → idOf Missing ≡ ownFound bytes offsets lookup char
-  unfolding ownFound idAt
-  own-missing e = rw (← found, e)
+    go : (b : Bool) (f : Found) → cond b (cond (eqb markId noId) none (some markId)) (entryAt 0 lookup f) ≡ some id → id < 4294967296
+    go true f q = marked (eqb markId noId) q
+    go false Nothing q = absurd (Option·none-ne-some id q)
+    go false (At i) q = rw (← Option·some-injective (getD lookup i 0) id q) (all i)
+
+module _ (bytes offsets lookup firstBytes : List ℕ) (markId : ℕ) (char : List ℕ) {f : Found} (found : foundId f ≡ idFrom (strings bytes offsets) lookup firstBytes markId char) where
+  pub own-at : {id : ℕ} → f ≡ At id → idOf (Id id) ≡ ownFound bytes offsets lookup firstBytes markId char
+  unfolding ownFound
+  own-at e = sym (ap foundId e) ∙ found
+
+  pub own-missing : f ≡ Nothing → idOf Missing ≡ ownFound bytes offsets lookup firstBytes markId char
+  unfolding ownFound
+  own-missing e = sym (ap foundId e) ∙ found
 
 -- ---- the fallback ids of a character's bytes
 

@@ -1,5 +1,5 @@
 -- Laws of the merge turn by turn: the row of a pair, the next merge among pairs, a merge in place. Assumes nothing.
-use Prim.Native.Nat.{ℕ, zero, suc, _+_, _-_, _≤_, _<_, min}
+use Prim.Native.Nat.{ℕ, zero, suc, _+_, _-_, _/_, _^_, _≤_, _<_, min}
 use native.Mathlib.Nat.{zero-add, add-zero}
 use native.Mathlib.Omega.{arith}
 use native.Mathlib.Numerals.{add-one}
@@ -17,9 +17,10 @@ use Rattle.utf8.proofs.Places.{length-neighbours, getD-neighbours}
 use Rattle.model.specs.declared.Found.{Found}
 use Rattle.model.specs.declared.Found.the-variants.{At, Nothing}
 use Rattle.model.specs.Model.{Row, rowsOf}
-use Rattle.model.specs.inner.Search.{rowOrder, foundRow, rowFound}
-use Rattle.model.proofs.SearchLaws.{found-equal}
+use Rattle.model.specs.inner.Search.{rowOrder, rowFound}
+use Rattle.model.proofs.SearchLaws.{found-below}
 use Rattle.model.proofs.RowLaws.{row-is}
+use Rattle.index.specs.inner.Find.{rowFrom}
 use Rattle.merge.specs.declared.Turn.{Turn}
 use Rattle.merge.specs.declared.Turn.the-variants.{Merge, Stop}
 use Rattle.merge.specs.Merge.{Candidate, candidateAt, candidatesFrom, candidates, lowerRank, lowestRank, nextMerge}
@@ -28,14 +29,14 @@ use Rattle.merge.proofs.NextLaws.{lowerOf, lowest-append}
 
 -- ---- the row of a pair, by what the search gave
 
-module _ (left right result rank : List ℕ) (place l r : ℕ) {f : Found} (found : f ≡ foundRow left right l r) where
-  pub row-at : {i n k : ℕ} → f ≡ At i → n ≡ getD result i 0 → k ≡ getD rank i 0 → Merge place n k ≡ turnAt place (rowIn left right result rank l r)
-  unfolding rowIn rowFound foundRow
+module _ (left right result rank buckets : List ℕ) (shift place l r : ℕ) {f : Found} (found : f ≡ rowFrom left right buckets shift l r) where
+  pub row-at : {i n k : ℕ} → f ≡ At i → n ≡ getD result i 0 → k ≡ getD rank i 0 → Merge place n k ≡ turnAt place (rowIn left right result rank buckets shift l r)
+  unfolding rowIn rowFound rowFrom
   row-at {i} e n-is k-is =
-      let inside : i < length left = found-equal (rowOrder left right l r) (length left) i (sym found ∙ e) .0 in
+      let inside : i < length left = omega (arith, found-below (rowOrder left right l r) (getD buckets (l / 2 ^ shift) 0) (min (getD buckets (l / 2 ^ shift + 1) 0) (length left)) i (sym found ∙ e)) in
       rw (← found, e) (rw (row-is left right result rank i (record { left = 0; right = 0; result = 0; rank = 0 }) inside, n-is, k-is))
 
-  pub row-missing : f ≡ Nothing → Stop ≡ turnAt place (rowIn left right result rank l r)
+  pub row-missing : f ≡ Nothing → Stop ≡ turnAt place (rowIn left right result rank buckets shift l r)
   unfolding rowIn rowFound
   row-missing e = rw (← found, e)
 

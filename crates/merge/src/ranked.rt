@@ -1,8 +1,8 @@
 // The plain ranked merge, in place.
 use crate::Turn;
 use crate::start::lesser;
+use index::find_row_from;
 use model::Found;
-use model::search::find_row;
 use model::tables::number_at;
 ghost use mathlib.Core.Path.{_≡_};
 ghost use Prim.Native.Nat.{_+_, _≤_};
@@ -16,13 +16,15 @@ fn row_of_pair(
     right: &[u32],
     result: &[u32],
     rank: &[u32],
+    buckets: &[u32],
+    shift: u32,
     place: usize,
     l: u32,
     r: u32,
 ) -> Turn
-    ensures { λ t. ⌜ t ≡ turnAt place (rowIn (now (left .entry)) (now (right .entry)) (now (result .entry)) (now (rank .entry)) l r) ⌝ }
+    ensures { λ t. ⌜ t ≡ turnAt place (rowIn (now (left .entry)) (now (right .entry)) (now (result .entry)) (now (rank .entry)) (now (buckets .entry)) shift l r) ⌝ }
 {
-    match find_row(left, right, l, r) {
+    match find_row_from(left, right, buckets, shift, l, r) {
         Found::At(i) => Turn::Merge {
             place: place,
             result: number_at(result, i),
@@ -59,8 +61,16 @@ fn lower(first: Turn, second: Turn) -> Turn
 }
 
 // The next merge among adjacent ids: the lowest rank, the leftmost of equals.
-fn next_merge(left: &[u32], right: &[u32], result: &[u32], rank: &[u32], ids: &[u32]) -> Turn
-    ensures { λ t. ⌜ t ≡ turnOf (nextMerge (rowIn (now (left .entry)) (now (right .entry)) (now (result .entry)) (now (rank .entry))) (now (ids .entry))) ⌝ }
+fn next_merge(
+    left: &[u32],
+    right: &[u32],
+    result: &[u32],
+    rank: &[u32],
+    buckets: &[u32],
+    shift: u32,
+    ids: &[u32],
+) -> Turn
+    ensures { λ t. ⌜ t ≡ turnOf (nextMerge (rowIn (now (left .entry)) (now (right .entry)) (now (result .entry)) (now (rank .entry)) (now (buckets .entry)) shift) (now (ids .entry))) ⌝ }
 {
     let mut best = Turn::Stop;
     let mut place = 0;
@@ -68,7 +78,17 @@ fn next_merge(left: &[u32], right: &[u32], result: &[u32], rank: &[u32], ids: &[
     while next < ids.len() {
         best = lower(
             best,
-            row_of_pair(left, right, result, rank, place, ids[place], ids[next]),
+            row_of_pair(
+                left,
+                right,
+                result,
+                rank,
+                buckets,
+                shift,
+                place,
+                ids[place],
+                ids[next],
+            ),
         );
         place = next;
         next += 1;
@@ -98,14 +118,16 @@ pub fn bpe_merge_symbols_ranked(
     right: &[u32],
     result: &[u32],
     rank: &[u32],
+    buckets: &[u32],
+    shift: u32,
     ids: &mut [u32],
     count: usize,
 ) -> usize
-    ensures { λ n. ⌜ _≡_ {A = Merged} (record { count = n; ids = now (ids .exit) }) (mergedFront (rowIn (now (left .entry)) (now (right .entry)) (now (result .entry)) (now (rank .entry))) count (now (ids .entry))) ⌝ }
+    ensures { λ n. ⌜ _≡_ {A = Merged} (record { count = n; ids = now (ids .exit) }) (mergedFront (rowIn (now (left .entry)) (now (right .entry)) (now (result .entry)) (now (rank .entry)) (now (buckets .entry)) shift) count (now (ids .entry))) ⌝ }
 {
     let mut n = lesser(count, ids.len());
     loop {
-        match next_merge(left, right, result, rank, &ids[..n]) {
+        match next_merge(left, right, result, rank, buckets, shift, &ids[..n]) {
             Turn::Stop => {
                 return n;
             }

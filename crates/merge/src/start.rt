@@ -1,11 +1,10 @@
 // The starting ids of a unit.
 use crate::Own;
 use crate::Symbols;
+use index::find_id;
 use model::Found;
 use model::compare::equal;
 use model::fallback::fallback_id;
-use model::search::find_piece;
-use model::tables::number_at;
 use utf8::chars::char_width;
 ghost use mathlib.Core.Path.{_≡_};
 ghost use mathlib.Core.Bool.{cond};
@@ -20,11 +19,25 @@ ghost use Rattle.merge.specs.inner.Laid.{Laid, idOf, ownFound, laidIn, c
 const MARK: [u8; 3] = [0xE2, 0x96, 0x81];
 
 // The id of a character's own piece.
-fn own_id(piece_bytes: &[u8], piece_offsets: &[u32], lookup: &[u32], char: &[u8]) -> Own
-    ensures { λ r. ⌜ idOf r ≡ ownFound (now («piece_bytes» .entry)) (now («piece_offsets» .entry)) (now (lookup .entry)) (now (char .entry)) ⌝ }
+fn own_id(
+    piece_bytes: &[u8],
+    piece_offsets: &[u32],
+    lookup: &[u32],
+    first_bytes: &[u32],
+    mark_id: u32,
+    char: &[u8],
+) -> Own
+    ensures { λ r. ⌜ idOf r ≡ ownFound (now («piece_bytes» .entry)) (now («piece_offsets» .entry)) (now (lookup .entry)) (now («first_bytes» .entry)) «mark_id» (now (char .entry)) ⌝ }
 {
-    match find_piece(piece_bytes, piece_offsets, lookup, char) {
-        Found::At(i) => Own::Id(number_at(lookup, i)),
+    match find_id(
+        piece_bytes,
+        piece_offsets,
+        lookup,
+        first_bytes,
+        mark_id,
+        char,
+    ) {
+        Found::At(id) => Own::Id(id as u32),
         Found::Nothing => Own::Missing,
     }
 }
@@ -65,12 +78,21 @@ fn spell(
     piece_offsets: &[u32],
     lookup: &[u32],
     fallback: &[u32],
+    first_bytes: &[u32],
+    mark_id: u32,
     char: &[u8],
     out: &mut [u32],
 ) -> Symbols
-    ensures { λ r. ⌜ _≡_ {A = Laid} (record { symbols = r; out = now (out .exit) }) (charLaid (ownFound (now («piece_bytes» .entry)) (now («piece_offsets» .entry)) (now (lookup .entry))) (now (fallback .entry)) (now (char .entry)) (now (out .entry))) ⌝ }
+    ensures { λ r. ⌜ _≡_ {A = Laid} (record { symbols = r; out = now (out .exit) }) (charLaid (ownFound (now («piece_bytes» .entry)) (now («piece_offsets» .entry)) (now (lookup .entry)) (now («first_bytes» .entry)) «mark_id») (now (fallback .entry)) (now (char .entry)) (now (out .entry))) ⌝ }
 {
-    match own_id(piece_bytes, piece_offsets, lookup, char) {
+    match own_id(
+        piece_bytes,
+        piece_offsets,
+        lookup,
+        first_bytes,
+        mark_id,
+        char,
+    ) {
         Own::Id(id) => {
             if out.len() == 0 {
                 return Symbols { count: 0, drops: 0 };
@@ -88,19 +110,48 @@ fn spell_as(
     piece_offsets: &[u32],
     lookup: &[u32],
     fallback: &[u32],
+    first_bytes: &[u32],
+    mark_id: u32,
     char: &[u8],
     raw: bool,
     out: &mut [u32],
 ) -> Symbols
-    ensures { λ r. ⌜ _≡_ {A = Laid} (record { symbols = r; out = now (out .exit) }) (charLaid (ownFound (now («piece_bytes» .entry)) (now («piece_offsets» .entry)) (now (lookup .entry))) (now (fallback .entry)) (asMark raw (now (char .entry))) (now (out .entry))) ⌝ }
+    ensures { λ r. ⌜ _≡_ {A = Laid} (record { symbols = r; out = now (out .exit) }) (charLaid (ownFound (now («piece_bytes» .entry)) (now («piece_offsets» .entry)) (now (lookup .entry)) (now («first_bytes» .entry)) «mark_id») (now (fallback .entry)) (asMark raw (now (char .entry))) (now (out .entry))) ⌝ }
 {
     if !raw {
-        return spell(piece_bytes, piece_offsets, lookup, fallback, char, out);
+        return spell(
+            piece_bytes,
+            piece_offsets,
+            lookup,
+            fallback,
+            first_bytes,
+            mark_id,
+            char,
+            out,
+        );
     }
     if equal(char, &[0x20]) {
-        return spell(piece_bytes, piece_offsets, lookup, fallback, &MARK, out);
+        return spell(
+            piece_bytes,
+            piece_offsets,
+            lookup,
+            fallback,
+            first_bytes,
+            mark_id,
+            &MARK,
+            out,
+        );
     }
-    spell(piece_bytes, piece_offsets, lookup, fallback, char, out)
+    spell(
+        piece_bytes,
+        piece_offsets,
+        lookup,
+        fallback,
+        first_bytes,
+        mark_id,
+        char,
+        out,
+    )
 }
 
 // The starting ids of the virtual mark, where there is one.
@@ -109,15 +160,26 @@ fn spell_mark(
     piece_offsets: &[u32],
     lookup: &[u32],
     fallback: &[u32],
+    first_bytes: &[u32],
+    mark_id: u32,
     virtual_mark: bool,
     out: &mut [u32],
 ) -> Symbols
-    ensures { λ r. ⌜ _≡_ {A = Laid} (record { symbols = r; out = now (out .exit) }) (cond «virtual_mark» (charLaid (ownFound (now («piece_bytes» .entry)) (now («piece_offsets» .entry)) (now (lookup .entry))) (now (fallback .entry)) mark (now (out .entry))) (laidIn [] 0 (now (out .entry)))) ⌝ }
+    ensures { λ r. ⌜ _≡_ {A = Laid} (record { symbols = r; out = now (out .exit) }) (cond «virtual_mark» (charLaid (ownFound (now («piece_bytes» .entry)) (now («piece_offsets» .entry)) (now (lookup .entry)) (now («first_bytes» .entry)) «mark_id») (now (fallback .entry)) mark (now (out .entry))) (laidIn [] 0 (now (out .entry)))) ⌝ }
 {
     if !virtual_mark {
         return Symbols { count: 0, drops: 0 };
     }
-    spell(piece_bytes, piece_offsets, lookup, fallback, &MARK, out)
+    spell(
+        piece_bytes,
+        piece_offsets,
+        lookup,
+        fallback,
+        first_bytes,
+        mark_id,
+        &MARK,
+        out,
+    )
 }
 
 // The width of the character at the head; a byte that begins none stands alone.
@@ -146,18 +208,22 @@ pub fn init_symbols(
     piece_offsets: &[u32],
     lookup: &[u32],
     fallback: &[u32],
+    first_bytes: &[u32],
+    mark_id: u32,
     unit: &[u8],
     raw: bool,
     virtual_mark: bool,
     out: &mut [u32],
 ) -> Symbols
-    ensures { λ r. ⌜ _≡_ {A = Laid} (record { symbols = r; out = now (out .exit) }) (unitLaid (ownFound (now («piece_bytes» .entry)) (now («piece_offsets» .entry)) (now (lookup .entry))) (now (fallback .entry)) (markedChars «virtual_mark» raw (now (unit .entry))) (now (out .entry))) ⌝ }
+    ensures { λ r. ⌜ _≡_ {A = Laid} (record { symbols = r; out = now (out .exit) }) (unitLaid (ownFound (now («piece_bytes» .entry)) (now («piece_offsets» .entry)) (now (lookup .entry)) (now («first_bytes» .entry)) «mark_id») (now (fallback .entry)) (markedChars «virtual_mark» raw (now (unit .entry))) (now (out .entry))) ⌝ }
 {
     let first = spell_mark(
         piece_bytes,
         piece_offsets,
         lookup,
         fallback,
+        first_bytes,
+        mark_id,
         virtual_mark,
         out,
     );
@@ -171,6 +237,8 @@ pub fn init_symbols(
             piece_offsets,
             lookup,
             fallback,
+            first_bytes,
+            mark_id,
             &unit[i..next],
             raw,
             &mut out[count..],
@@ -191,12 +259,14 @@ pub fn count_symbols(
     piece_offsets: &[u32],
     lookup: &[u32],
     fallback: &[u32],
+    first_bytes: &[u32],
+    mark_id: u32,
     unit: &[u8],
     raw: bool,
     virtual_mark: bool,
     room: usize,
 ) -> Symbols
-    ensures { λ r. ⌜ r ≡ unitSymbols (ownFound (now («piece_bytes» .entry)) (now («piece_offsets» .entry)) (now (lookup .entry))) (now (fallback .entry)) (markedChars «virtual_mark» raw (now (unit .entry))) room ⌝ }
+    ensures { λ r. ⌜ r ≡ unitSymbols (ownFound (now («piece_bytes» .entry)) (now («piece_offsets» .entry)) (now (lookup .entry)) (now («first_bytes» .entry)) «mark_id») (now (fallback .entry)) (markedChars «virtual_mark» raw (now (unit .entry))) room ⌝ }
 {
     let mut ids = [0u32; 4];
     let first = spell_mark(
@@ -204,6 +274,8 @@ pub fn count_symbols(
         piece_offsets,
         lookup,
         fallback,
+        first_bytes,
+        mark_id,
         virtual_mark,
         &mut ids,
     );
@@ -217,6 +289,8 @@ pub fn count_symbols(
             piece_offsets,
             lookup,
             fallback,
+            first_bytes,
+            mark_id,
             &unit[i..next],
             raw,
             &mut ids,

@@ -8,7 +8,7 @@ use Rattle.utf8.specs.Lists.{joinMap}
 use Rattle.utf8.specs.Lists as lists
 use Rattle.model.specs.Model.{strings}
 use Rattle.model.specs.Mark.{mark}
-use Rattle.model.specs.inner.Search.{foundPiece, idAt}
+use Rattle.index.specs.inner.Find.{idFrom}
 use Rattle.merge.specs.Start.{startingIdsBy, isDroppedBy, unitChars}
 use Rattle.merge.specs.declared.Own.{Own}
 use Rattle.merge.specs.declared.Own.the-variants.{Id, Missing}
@@ -20,8 +20,8 @@ idOf (Id id) = some id
 idOf Missing = none
 
 -- The id at which a search for a character's piece ends, on any tables.
-unfoldable pub ownFound : List ℕ → List ℕ → List ℕ → List ℕ → Option ℕ
-ownFound pieceBytes pieceOffsets lookup char = idAt lookup (foundPiece (strings pieceBytes pieceOffsets) lookup char)
+unfoldable pub ownFound : List ℕ → List ℕ → List ℕ → List ℕ → ℕ → List ℕ → Option ℕ
+ownFound pieceBytes pieceOffsets lookup firstBytes markId char = idFrom (strings pieceBytes pieceOffsets) lookup firstBytes markId char
 
 -- The characters of a unit with its virtual mark, where it has one.
 unfoldable pub markedChars : Bool → Bool → List ℕ → List (List ℕ)

@@ -6,15 +6,16 @@ use mathlib.Core.Option.{Option, none, some}
 use lib.Dec.{leb}
 use lib.ListN.{length, take, drop}
 use Rattle.model.specs.Model.{Row, rowsOf}
-use Rattle.model.specs.inner.Search.{foundRow, rowFound}
+use Rattle.model.specs.inner.Search.{rowFound}
 use Rattle.model.specs.Answers.{zeros}
+use Rattle.index.specs.inner.Find.{rowFrom}
 use Rattle.merge.specs.Merge.{Candidate, merged}
 use Rattle.merge.specs.declared.Turn.{Turn}
 use Rattle.merge.specs.declared.Turn.the-variants.{Merge, Stop}
 
 -- The row at which a search for a pair ends, on any tables.
-unfoldable pub rowIn : List ℕ → List ℕ → List ℕ → List ℕ → ℕ → ℕ → Option Row
-rowIn left right result rank l r = rowFound (rowsOf left right result rank) (foundRow left right l r)
+unfoldable pub rowIn : List ℕ → List ℕ → List ℕ → List ℕ → List ℕ → ℕ → ℕ → ℕ → Option Row
+rowIn left right result rank buckets shift l r = rowFound (rowsOf left right result rank) (rowFrom left right buckets shift l r)
 
 -- What a turn does with the pair at a place, by the pair's row.
 abbrev pub turnAt : ℕ → Option Row → Turn

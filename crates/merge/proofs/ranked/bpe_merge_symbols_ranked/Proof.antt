@@ -12,17 +12,17 @@ use Rattle.merge.proofs.ranked.bpe_merge_symbols_ranked.Statement.{stat
 use Rattle.merge.proofs.ranked.bpe_merge_symbols_ranked.Tie as tie
 
 abbrev Inv-loop : tie.InvT-loop
-Inv-loop left right result rank ids₀ count n₀ ids n = Merging (rowIn left right result rank) n₀ ids₀ ids n
+Inv-loop left right result rank buckets shift ids₀ count n₀ ids n = Merging (rowIn left right result rank buckets shift) n₀ ids₀ ids n
 
 abbrev μ-loop : tie.MeasureT-loop
-μ-loop left right result rank ids₀ count n₀ ids n = n
+μ-loop left right result rank buckets shift ids₀ count n₀ ids n = n
 
 abbrev start : tie.After-lesser Inv-loop μ-loop → tie.Start Inv-loop μ-loop
-start f = f .before .before .before .before .before .before
+start f = f .before .before .before .before .before .before .before
 
 -- The pair that is merged next.
 pick : (p : tie.After-place Inv-loop μ-loop)
-    → Picked (nextMerge (rowIn (start (p .before .before .before .before .before) .args .left .now) (start (p .before .before .before .before .before) .args .right .now) (start (p .before .before .before .before .before) .args .result .now) (start (p .before .before .before .before .before) .args .rank .now)) (take (p .before .before .before .before .loop .n) (p .before .before .before .before .loop .ids)))
+    → Picked (nextMerge (rowIn (start (p .before .before .before .before .before) .args .left .now) (start (p .before .before .before .before .before) .args .right .now) (start (p .before .before .before .before .before) .args .result .now) (start (p .before .before .before .before .before) .args .rank .now) (start (p .before .before .before .before .before) .args .buckets .now) (start (p .before .before .before .before .before) .args .shift)) (take (p .before .before .before .before .loop .n) (p .before .before .before .before .loop .ids)))
     (p .place .given .0 .0) (p .place .given .0 .1 .0)
 pick p = picked _ (p .before .before .next-merge .ensures) (p .place .given .1)
 
@@ -32,7 +32,7 @@ lesser-requires c κs = search needs
 loop-holds : tie.Need-loop-holds Inv-loop μ-loop
 loop-holds c =
     let st = start c .args in
-    merging-start (rowIn (st .left .now) (st .right .now) (st .result .now) (st .rank .now)) (c .lesser .result) (st .ids .now) (omega (arith, c .lesser .ensures))
+    merging-start (rowIn (st .left .now) (st .right .now) (st .result .now) (st .rank .now) (st .buckets .now) (st .shift)) (c .lesser .result) (st .ids .now) (omega (arith, c .lesser .ensures))
 
 slice-reshare-prefix-next-merge : tie.Need-slice-reshare-prefix-next-merge Inv-loop μ-loop
 slice-reshare-prefix-next-merge c = merging-fits (c .loop .inv)

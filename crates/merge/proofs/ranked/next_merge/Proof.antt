@@ -9,15 +9,15 @@ use Rattle.merge.proofs.ranked.next_merge.Statement.{statement}
 use Rattle.merge.proofs.ranked.next_merge.Tie as tie
 
 abbrev Inv-loop : tie.InvT-loop
-Inv-loop left right result rank ids best₀ place₀ next₀ best place next = (next ≡ place + 1) × Scanned (rowIn left right result rank) ids best place
+Inv-loop left right result rank buckets shift ids best₀ place₀ next₀ best place next = (next ≡ place + 1) × Scanned (rowIn left right result rank buckets shift) ids best place
 
 abbrev μ-loop : tie.MeasureT-loop
-μ-loop left right result rank ids best₀ place₀ next₀ best place next = length ids - next
+μ-loop left right result rank buckets shift ids best₀ place₀ next₀ best place next = length ids - next
 
 loop-holds : tie.Need-loop-holds Inv-loop μ-loop
 loop-holds c =
-    let st = c .before .before .before .before .before .args in
-    (refl, scanned-start (rowIn (st .left .now) (st .right .now) (st .result .now) (st .rank .now)) (st .ids .now))
+    let st = c .before .before .before .before .before .before .args in
+    (refl, scanned-start (rowIn (st .left .now) (st .right .now) (st .result .now) (st .rank .now) (st .buckets .now) (st .shift)) (st .ids .now))
 
 mul-row-of-pair : tie.Need-mul-row-of-pair Inv-loop μ-loop
 mul-row-of-pair c = search needs
@@ -46,13 +46,13 @@ loop-less c = search needs
 loop-again : tie.Need-loop-again Inv-loop μ-loop
 loop-again c =
     let a = c .before .before .before .before .before in
-    let st = a .before .before .before .before .before .before .args in
-    (refl, scanned-next (rowIn (st .left .now) (st .right .now) (st .result .now) (st .rank .now)) (st .ids .now) (a .loop .inv .1) (a .loop .inv .0) (c .before .before .before .before .loop-test .taken) (c .before .row-of-pair .ensures) (c .lower .ensures))
+    let st = a .before .before .before .before .before .before .before .args in
+    (refl, scanned-next (rowIn (st .left .now) (st .right .now) (st .result .now) (st .rank .now) (st .buckets .now) (st .shift)) (st .ids .now) (a .loop .inv .1) (a .loop .inv .0) (c .before .before .before .before .loop-test .taken) (c .before .row-of-pair .ensures) (c .lower .ensures))
 
 returns : tie.Need-returns Inv-loop μ-loop
 returns c =
-    let st = c .before .before .before .before .before .before .before .args in
-    scanned-ended (rowIn (st .left .now) (st .right .now) (st .result .now) (st .rank .now)) (st .ids .now) (c .before .loop .inv .1) (search needs)
+    let st = c .before .before .before .before .before .before .before .before .args in
+    scanned-ended (rowIn (st .left .now) (st .right .now) (st .result .now) (st .rank .now) (st .buckets .now) (st .shift)) (st .ids .now) (c .before .loop .inv .1) (search needs)
 
 pub next-merge-spec : {M : Type 1} → statement M
 next-merge-spec =

@@ -11,17 +11,17 @@ use Rattle.merge.proofs.start.count_symbols.Statement.{statement}
 use Rattle.merge.proofs.start.count_symbols.Tie as tie
 
 abbrev Inv-loop : tie.InvT-loop
-Inv-loop piece-bytes piece-offsets lookup fallback unit raw virtual-mark room ids₀ count₀ drops₀ i₀ ids count drops i =
+Inv-loop piece-bytes piece-offsets lookup fallback first-bytes mark-id unit raw virtual-mark room ids₀ count₀ drops₀ i₀ ids count drops i =
     (i ≤ length unit)
     × (drops ≤ 1 + i)
     × (length ids ≡ 4)
-    × Tallied (ownFound piece-bytes piece-offsets lookup) fallback (markedChars virtual-mark raw unit) (unitChars raw (drop i unit)) room count drops
+    × Tallied (ownFound piece-bytes piece-offsets lookup first-bytes mark-id) fallback (markedChars virtual-mark raw unit) (unitChars raw (drop i unit)) room count drops
 
 abbrev μ-loop : tie.MeasureT-loop
-μ-loop piece-bytes piece-offsets lookup fallback unit raw virtual-mark room ids₀ count₀ drops₀ i₀ ids count drops i = length unit - i
+μ-loop piece-bytes piece-offsets lookup fallback first-bytes mark-id unit raw virtual-mark room ids₀ count₀ drops₀ i₀ ids count drops i = length unit - i
 
 abbrev start : tie.After-ids Inv-loop μ-loop → tie.Start Inv-loop μ-loop
-start f = f .before .before .before .before .before .before
+start f = f .before .before .before .before .before .before .before
 
 here : (f : tie.After-char-step Inv-loop μ-loop) → Stepped (start (f .before .before .before .before .before .before .before) .args .unit .now) (f .before .before .before .loop .i) (f .char-step .result)
 here f = stepped (start (f .before .before .before .before .before .before .before) .args .unit .now) (f .before .before .before .loop .i) (f .char-step .result) (f .before .before .loop-test .taken) (f .char-step .ensures)
@@ -38,9 +38,9 @@ lesser-requires c κs = search needs
 loop-holds : tie.Need-loop-holds Inv-loop μ-loop
 loop-holds c =
     let st = start (c .before .before .before) .args in
-    let own = ownFound (st .piece-bytes .now) (st .piece-offsets .now) (st .lookup .now) in
+    let own = ownFound (st .piece-bytes .now) (st .piece-offsets .now) (st .lookup .now) (st .first-bytes .now) (st .mark-id) in
     let first = mark-one own (st .fallback .now) (st .virtual-mark) (replicate 4 0) (c .before .before .spell-mark .ensures) in
-    (omega arith, omega (arith, first), c .before .before .spell-mark .kept .1 .1 .1 .1 .1 .0, tallied-start own (st .fallback .now) (st .virtual-mark) (st .raw) (st .unit .now) (replicate 4 0) (st .room) (omega arith) (c .before .before .spell-mark .ensures) (c .lesser .ensures))
+    (omega arith, omega (arith, first), c .before .before .spell-mark .kept .1 .1 .1 .1 .1 .1 .1 .0, tallied-start own (st .fallback .now) (st .virtual-mark) (st .raw) (st .unit .now) (replicate 4 0) (st .room) (omega arith) (c .before .before .spell-mark .ensures) (c .lesser .ensures))
 
 sub-char-step : tie.Need-sub-char-step Inv-loop μ-loop
 sub-char-step c = search needs
@@ -89,8 +89,8 @@ add-drops c =
     let a = f .before .before .before .before .before .before in
     let st = start (a .before .before .before .before) .args in
     let char = asMark (st .raw) (take (a .loop .i + f .before .before .before .char-step .result - a .loop .i) (drop (a .loop .i) (st .unit .now))) in
-    let g = given (ownFound (st .piece-bytes .now) (st .piece-offsets .now) (st .lookup .now)) (st .fallback .now) char (a .loop .ids) (f .spell-as .ensures) in
-    omega (arith, start (a .before .before .before .before) .good .1 .1 .1 .1 .0 .1, given-one g, a .loop .inv .1, a .loop .inv .0)
+    let g = given (ownFound (st .piece-bytes .now) (st .piece-offsets .now) (st .lookup .now) (st .first-bytes .now) (st .mark-id)) (st .fallback .now) char (a .loop .ids) (f .spell-as .ensures) in
+    omega (arith, start (a .before .before .before .before) .good .1 .1 .1 .1 .1 .1 .0 .1, given-one g, a .loop .inv .1, a .loop .inv .0)
 
 loop-less : tie.Need-loop-less Inv-loop μ-loop
 loop-less c =
@@ -103,11 +103,11 @@ loop-again c =
     let a = f .before .before .before .before .before .before in
     let st = start (a .before .before .before .before) .args in
     let char = asMark (st .raw) (take (a .loop .i + f .before .before .before .char-step .result - a .loop .i) (drop (a .loop .i) (st .unit .now))) in
-    let g = given (ownFound (st .piece-bytes .now) (st .piece-offsets .now) (st .lookup .now)) (st .fallback .now) char (a .loop .ids) (f .spell-as .ensures) in
+    let g = given (ownFound (st .piece-bytes .now) (st .piece-offsets .now) (st .lookup .now) (st .first-bytes .now) (st .mark-id)) (st .fallback .now) char (a .loop .ids) (f .spell-as .ensures) in
     let h = here (f .before .before .before) in (
       h .ends,
       omega (arith, given-one g, a .loop .inv .1, h .some),
-      f .spell-as .kept .1 .1 .1 .1 .1 .1 .0 ∙ a .loop .inv .2,
+      f .spell-as .kept .1 .1 .1 .1 .1 .1 .1 .1 .0 ∙ a .loop .inv .2,
       tallied-next g (a .loop .inv .3) (unit-at (st .raw) (st .unit .now) (a .loop .i) h (f .before .before .before .before .before .loop-test .taken))
           (rw (a .loop .inv .2) (unit-narrow (st .raw) (st .unit .now) (a .loop .i) h)) (c .before .lesser2 .ensures),
     )

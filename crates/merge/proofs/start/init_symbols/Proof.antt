@@ -10,26 +10,26 @@ use Rattle.merge.proofs.start.init_symbols.Statement.{statement}
 use Rattle.merge.proofs.start.init_symbols.Tie as tie
 
 abbrev Inv-loop : tie.InvT-loop
-Inv-loop piece-bytes piece-offsets lookup fallback unit raw virtual-mark out₀ count₀ drops₀ i₀ out count drops i =
+Inv-loop piece-bytes piece-offsets lookup fallback first-bytes mark-id unit raw virtual-mark out₀ count₀ drops₀ i₀ out count drops i =
     (i ≤ length unit)
     × (drops ≤ drops₀ + i)
-    × Onward (ownFound piece-bytes piece-offsets lookup) fallback (unitChars raw unit) (unitChars raw (drop i unit)) out₀ count₀ drops₀ out count drops
+    × Onward (ownFound piece-bytes piece-offsets lookup first-bytes mark-id) fallback (unitChars raw unit) (unitChars raw (drop i unit)) out₀ count₀ drops₀ out count drops
 
 abbrev μ-loop : tie.MeasureT-loop
-μ-loop piece-bytes piece-offsets lookup fallback unit raw virtual-mark out₀ count₀ drops₀ i₀ out count drops i = length unit - i
+μ-loop piece-bytes piece-offsets lookup fallback first-bytes mark-id unit raw virtual-mark out₀ count₀ drops₀ i₀ out count drops i = length unit - i
 
 abbrev start : tie.After-slice-known2 Inv-loop μ-loop → tie.Start Inv-loop μ-loop
-start f = f .before .before .before .before .before .before .before .before .before .before
+start f = f .before .before .before .before .before .before .before .before .before .before .before
 
 -- The walk as it stands at the loop's test.
 walked : (a : tie.At-loop Inv-loop μ-loop)
-    → Walked (ownFound (start (a .before) .args .piece-bytes .now) (start (a .before) .args .piece-offsets .now) (start (a .before) .args .lookup .now)) (start (a .before) .args .fallback .now)
+    → Walked (ownFound (start (a .before) .args .piece-bytes .now) (start (a .before) .args .piece-offsets .now) (start (a .before) .args .lookup .now) (start (a .before) .args .first-bytes .now) (start (a .before) .args .mark-id)) (start (a .before) .args .fallback .now)
     (markedChars (start (a .before) .args .virtual-mark) (start (a .before) .args .raw) (start (a .before) .args .unit .now))
     (unitChars (start (a .before) .args .raw) (drop (a .loop .i) (start (a .before) .args .unit .now)))
     (start (a .before) .args .out .now) (a .loop .out) (a .loop .count) (a .loop .drops)
 walked a =
     let st = start (a .before) .args in
-    a .loop .inv .2 .goes (walked-start (ownFound (st .piece-bytes .now) (st .piece-offsets .now) (st .lookup .now)) (st .fallback .now) (st .virtual-mark) (st .raw) (st .unit .now) (st .out .now) (a .before .before .before .spell-mark .ensures))
+    a .loop .inv .2 .goes (walked-start (ownFound (st .piece-bytes .now) (st .piece-offsets .now) (st .lookup .now) (st .first-bytes .now) (st .mark-id)) (st .fallback .now) (st .virtual-mark) (st .raw) (st .unit .now) (st .out .now) (a .before .before .before .spell-mark .ensures))
 
 here : (f : tie.After-char-step Inv-loop μ-loop) → Stepped (start (f .before .before .before .before) .args .unit .now) (f .before .before .before .loop .i) (f .char-step .result)
 here f = stepped (start (f .before .before .before .before) .args .unit .now) (f .before .before .before .loop .i) (f .char-step .result) (f .before .before .loop-test .taken) (f .char-step .ensures)
@@ -67,7 +67,7 @@ part-spell-as-end c = here c .ends
 mul-spell-as : tie.Need-mul-spell-as Inv-loop μ-loop
 mul-spell-as c =
     let a = c .before .before .before .before in
-    omega (arith, start (a .before) .good .1 .1 .1 .1 .1 .1 .1 .0 .1, walked a .laying .count .within)
+    omega (arith, start (a .before) .good .1 .1 .1 .1 .1 .1 .1 .1 .1 .0 .1, walked a .laying .count .within)
 
 sub-spell-as-2 : tie.Need-sub-spell-as-2 Inv-loop μ-loop
 sub-spell-as-2 c =
@@ -91,9 +91,9 @@ add-count c =
     let a = f .before .before .before .before .before .before in
     let st = start (a .before) .args in
     let char = asMark (st .raw) (take (a .loop .i + f .before .before .before .char-step .result - a .loop .i) (drop (a .loop .i) (st .unit .now))) in
-    let g = given (ownFound (st .piece-bytes .now) (st .piece-offsets .now) (st .lookup .now)) (st .fallback .now) char (take (length (a .loop .out) - a .loop .count) (drop (a .loop .count) (a .loop .out))) (f .spell-as .ensures) in
+    let g = given (ownFound (st .piece-bytes .now) (st .piece-offsets .now) (st .lookup .now) (st .first-bytes .now) (st .mark-id)) (st .fallback .now) char (take (length (a .loop .out) - a .loop .count) (drop (a .loop .count) (a .loop .out))) (f .spell-as .ensures) in
     let w = walked a in
-    omega (arith, start (a .before) .good .1 .1 .1 .1 .1 .1 .1 .0 .0, g .count, length-take (length (a .loop .out) - a .loop .count) (drop (a .loop .count) (a .loop .out)), w .laying .count .within, w .laying .long)
+    omega (arith, start (a .before) .good .1 .1 .1 .1 .1 .1 .1 .1 .1 .0 .0, g .count, length-take (length (a .loop .out) - a .loop .count) (drop (a .loop .count) (a .loop .out)), w .laying .count .within, w .laying .long)
 
 add-drops : tie.Need-add-drops Inv-loop μ-loop
 add-drops c =
@@ -101,9 +101,9 @@ add-drops c =
     let a = f .before .before .before .before .before .before in
     let st = start (a .before) .args in
     let char = asMark (st .raw) (take (a .loop .i + f .before .before .before .char-step .result - a .loop .i) (drop (a .loop .i) (st .unit .now))) in
-    let g = given (ownFound (st .piece-bytes .now) (st .piece-offsets .now) (st .lookup .now)) (st .fallback .now) char (take (length (a .loop .out) - a .loop .count) (drop (a .loop .count) (a .loop .out))) (f .spell-as .ensures) in
-    let first = mark-one (ownFound (st .piece-bytes .now) (st .piece-offsets .now) (st .lookup .now)) (st .fallback .now) (st .virtual-mark) (st .out .now) (a .before .before .before .spell-mark .ensures) in
-    omega (arith, start (a .before) .good .1 .1 .1 .1 .0 .1, given-one g, first, a .loop .inv .1, a .loop .inv .0)
+    let g = given (ownFound (st .piece-bytes .now) (st .piece-offsets .now) (st .lookup .now) (st .first-bytes .now) (st .mark-id)) (st .fallback .now) char (take (length (a .loop .out) - a .loop .count) (drop (a .loop .count) (a .loop .out))) (f .spell-as .ensures) in
+    let first = mark-one (ownFound (st .piece-bytes .now) (st .piece-offsets .now) (st .lookup .now) (st .first-bytes .now) (st .mark-id)) (st .fallback .now) (st .virtual-mark) (st .out .now) (a .before .before .before .spell-mark .ensures) in
+    omega (arith, start (a .before) .good .1 .1 .1 .1 .1 .1 .0 .1, given-one g, first, a .loop .inv .1, a .loop .inv .0)
 
 loop-less : tie.Need-loop-less Inv-loop μ-loop
 loop-less c =
@@ -116,7 +116,7 @@ loop-again c =
     let a = f .before .before .before .before .before .before in
     let st = start (a .before) .args in
     let char = asMark (st .raw) (take (a .loop .i + f .before .before .before .char-step .result - a .loop .i) (drop (a .loop .i) (st .unit .now))) in
-    let g = given (ownFound (st .piece-bytes .now) (st .piece-offsets .now) (st .lookup .now)) (st .fallback .now) char (take (length (a .loop .out) - a .loop .count) (drop (a .loop .count) (a .loop .out))) (f .spell-as .ensures) in
+    let g = given (ownFound (st .piece-bytes .now) (st .piece-offsets .now) (st .lookup .now) (st .first-bytes .now) (st .mark-id)) (st .fallback .now) char (take (length (a .loop .out) - a .loop .count) (drop (a .loop .count) (a .loop .out))) (f .spell-as .ensures) in
     let h = here (f .before .before .before) in
     (h .ends, omega (arith, given-one g, a .loop .inv .1, h .some), onward-next (a .loop .inv .2) (unit-at (st .raw) (st .unit .now) (a .loop .i) h (f .before .before .before .before .before .loop-test .taken)) g)
 

@@ -9,7 +9,7 @@ use Rattle.merge.proofs.start.spell.Statement.{statement}
 use Rattle.merge.proofs.start.spell.Tie as tie
 
 abbrev start : tie.After-own-id → tie.Start
-start f = f .before .before .before .before .before .before .before
+start f = f .before .before .before .before .before .before .before .before
 
 own-id-requires : tie.Need-own-id-requires
 own-id-requires c κs = search needs
@@ -21,7 +21,7 @@ returns : tie.Need-returns
 returns c =
     let f = c .before .before .before .before in
     let st = start f .args in
-    own-no-room (ownFound (st .piece-bytes .now) (st .piece-offsets .now) (st .lookup .now)) (st .fallback .now) (st .char .now) (st .out .now) (f .own-id .ensures) (c .before .before .id .given .1) (c .if1 .taken)
+    own-no-room (ownFound (st .piece-bytes .now) (st .piece-offsets .now) (st .lookup .now) (st .first-bytes .now) (st .mark-id)) (st .fallback .now) (st .char .now) (st .out .now) (f .own-id .ensures) (c .before .before .id .given .1) (c .if1 .taken)
 
 slice-write-out : tie.Need-slice-write-out
 slice-write-out c = search needs
@@ -40,7 +40,7 @@ returns-2 c =
     let f = c .before .before .before .before in
     let some : 0 < length (start f .args .out .now) = search needs in
     let st = start f .args in
-    own-put (ownFound (st .piece-bytes .now) (st .piece-offsets .now) (st .lookup .now)) (st .fallback .now) (st .char .now) (st .out .now) (f .own-id .ensures) (c .before .before .id .given .1) some
+    own-put (ownFound (st .piece-bytes .now) (st .piece-offsets .now) (st .lookup .now) (st .first-bytes .now) (st .mark-id)) (st .fallback .now) (st .char .now) (st .out .now) (f .own-id .ensures) (c .before .before .id .given .1) some
 
 same-length-2 : tie.Need-same-length-2
 same-length-2 c = search needs
@@ -50,7 +50,7 @@ returns-3 c =
     let f = c .before .before .before .before .before .before in
     let st = start f .args in
     c .before .before .spell-bytes .ensures
-    ∙ own-lacking (ownFound (st .piece-bytes .now) (st .piece-offsets .now) (st .lookup .now)) (st .fallback .now) (st .char .now) (st .out .now) (f .own-id .ensures) (c .before .before .before .before .enum-told .given .1)
+    ∙ own-lacking (ownFound (st .piece-bytes .now) (st .piece-offsets .now) (st .lookup .now) (st .first-bytes .now) (st .mark-id)) (st .fallback .now) (st .char .now) (st .out .now) (f .own-id .ensures) (c .before .before .before .before .enum-told .given .1)
 
 pub spell-spec : {M : Type 1} → statement M
 spell-spec =

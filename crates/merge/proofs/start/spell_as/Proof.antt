@@ -8,7 +8,7 @@ use Rattle.merge.proofs.start.spell_as.Statement.{statement}
 use Rattle.merge.proofs.start.spell_as.Tie as tie
 
 abbrev start : tie.After-slice-known → tie.Start
-start f = f .before .before .before .before .before .before
+start f = f .before .before .before .before .before .before .before
 
 spell-requires : tie.Need-spell-requires
 spell-requires c κs = search needs

@@ -8,7 +8,7 @@ use Rattle.merge.proofs.start.spell_mark.Statement.{statement}
 use Rattle.merge.proofs.start.spell_mark.Tie as tie
 
 abbrev start : tie.After-slice-known → tie.Start
-start f = f .before .before .before .before .before
+start f = f .before .before .before .before .before .before
 
 returns : tie.Need-returns
 returns c = rw (not-true (start (c .before) .args .virtual-mark) (c .if1 .taken)) (rw (zero-min (length (start (c .before) .args .out .now))))
