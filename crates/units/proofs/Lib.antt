@@ -4,6 +4,8 @@ pub mod AdjacencyLaws
 pub mod SpanLaws
 pub mod StartLaws
 pub mod NextLaws
+pub mod CrossingLaws
+pub mod NotingLaws
 pub mod ShownLaws
 pub mod CutLaws
 pub mod UnitLaws

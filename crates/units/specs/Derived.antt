@@ -19,11 +19,12 @@ use Rattle.units.specs.declared.RawPath.the-variants as raw
 abbrev pub Place : Type 0
 Place = ℕ × ℕ
 
+-- Where the marks of a piece's crossings stand in it; only a piece that is UTF-8 has any.
+unfoldable pub placesWithin : List ℕ → List ℕ
+placesWithin bytes = cond (valid bytes) (filter (crossesAt bytes) (below (length bytes))) []
+
 unfoldable pub placesIn : ℕ × List ℕ → List Place
-placesIn numberedPiece =
-    let id = numberedPiece .0 in
-    let bytes = numberedPiece .1 in
-    cond (valid bytes) (map (λ (p : ℕ). (id, p)) (filter (crossesAt bytes) (below (length bytes)))) []
+placesIn p = map (λ (place : ℕ). (p .0, place)) (placesWithin (p .1))
 
 -- Where the crossings of all pieces are, in their order.
 unfoldable pub crossingPlaces : List (List ℕ) → List Place
@@ -40,7 +41,7 @@ notedOf None pieces = []
 
 -- A place as two 32-bit words.
 unfoldable pub placeWords : Place → List ℕ
-placeWords place = place .0 % 4294967296 ∷ place .1 ∷ []
+placeWords place = place .0 % 4294967296 ∷ place .1 % 4294967296 ∷ []
 
 -- The words of at most 32 places, then zeros.
 unfoldable pub notedWords : List Place → List ℕ

@@ -1,6 +1,7 @@
 // How a model's sections divide into units that are merged one by one.
 
 pub mod adjacency;
+pub mod crossings;
 pub mod cut;
 pub mod spans;
 
@@ -12,6 +13,22 @@ pub enum WordSplit {
     EveryMark,
     // A section is one unit.
     None,
+}
+
+// A kind of split, and how many crossings were noted for it.
+pub struct Split {
+    pub kind: WordSplit,
+    pub count: usize,
+}
+
+// How a piece crosses from one unit to the next.
+pub(crate) enum Crossed {
+    // Not at all.
+    Nowhere,
+    // By the mark at this place, with no mark or space beside it.
+    At(usize),
+    // By a mark, with another mark or a space beside it.
+    Tangled,
 }
 
 // How the raw path puts a virtual mark in front of a section.
