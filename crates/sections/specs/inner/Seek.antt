@@ -1,0 +1,61 @@
+-- A search that tests a place only where its byte begins some content, on any tables.
+use Prim.Native.Nat.{ℕ, suc}
+use mathlib.Core.Bool.{Bool, false, not, cond}
+use mathlib.Core.List.{List, [], _∷_, map}
+use mathlib.Core.Option.{Option, none, some}
+use lib.Dec.{eqb}
+use lib.ListN.{getD, set}
+use Rattle.utf8.specs.Lists.{any, below}
+use Rattle.sections.specs.Matches.{Match, longestAt}
+use Rattle.sections.specs.declared.Sought.{Sought}
+use Rattle.sections.specs.declared.Sought.the-variants.{Found, Missing}
+
+abbrev pub beginsWith : ℕ → List ℕ → Bool
+beginsWith b [] = false
+beginsWith b (x ∷ xs) = eqb x b
+
+-- For each byte below n: 1 if some content begins with it, else 0.
+unfoldable pub firstBytes : List (List ℕ) → ℕ → List ℕ
+firstBytes contents n = map (λ (b : ℕ). cond (any (beginsWith b) contents) 1 0) (below n)
+
+-- The same row, content by content: each sets the number of its first byte.
+abbrev pub noteFirst : List ℕ → List ℕ → List ℕ
+noteFirst [] row = row
+noteFirst (b ∷ bytes) row = set row b 1
+
+abbrev pub noteFirsts : List (List ℕ) → List ℕ → List ℕ
+noteFirsts [] row = row
+noteFirsts (c ∷ contents) row = noteFirsts contents (noteFirst c row)
+
+-- Such a row does not rule the byte out; of bytes past its end it says nothing.
+unfoldable pub mayBegin : List ℕ → ℕ → Bool
+mayBegin first b = not (eqb (getD first b 1) 0)
+
+abbrev pub rowIn : Option (ℕ × List ℕ) → Option ℕ
+rowIn none = none
+rowIn (some c) = some (c .0)
+
+-- The row of the longest content at the head of a text.
+unfoldable pub rowAt : List (List ℕ) → List ℕ → Option ℕ
+rowAt contents text = rowIn (longestAt contents text)
+
+-- The same where the first byte is not ruled out.
+abbrev pub rowBy : List ℕ → List (List ℕ) → List ℕ → Option ℕ
+rowBy first contents [] = none
+rowBy first contents (b ∷ bytes) = cond (mayBegin first b) (rowAt contents (b ∷ bytes)) none
+
+-- the match at the place, or else the other
+abbrev pub placed : ℕ → Option ℕ → Option Match → Option Match
+placed place none other = other
+placed place (some row) other = some (record { place = place; row = row })
+
+-- The leftmost match that begins with a byte that is not ruled out; place is that of the text's first byte.
+abbrev pub matchBy : List ℕ → List (List ℕ) → ℕ → List ℕ → Option Match
+matchBy first contents place [] = none
+matchBy first contents place (b ∷ bytes) =
+    let later = matchBy first contents (suc place) bytes in placed place (rowBy first contents (b ∷ bytes)) later
+
+-- What the answer of a search says.
+abbrev pub soughtMatch : Sought → Option Match
+soughtMatch Missing = none
+soughtMatch (Found place row) = some (record { place = place; row = row })
