@@ -17,7 +17,7 @@ use Rattle.utf8.proofs.Starts.{no-elements}
 use Rattle.utf8.proofs.Places.{getD-inside, length-countFrom, getD-countFrom, length-numbered, getD-numbered}
 use Rattle.model.specs.declared.Found.{Found}
 use Rattle.model.specs.declared.Found.the-variants.{At, Nothing}
-use Rattle.model.specs.Search.{foundId}
+use Rattle.model.specs.inner.Search.{foundId}
 use Rattle.model.specs.Check.{emptyOrNoText, badToken}
 use Rattle.sections.specs.Matches.{Match, longer, longest, longestAt, matchOr, firstMatch}
 use Rattle.sections.specs.inner.Seek.{beginsWith, firstBytes, noteFirst, noteFirsts, mayBegin, rowIn, rowAt, rowBy, placed, matchBy}

@@ -8,7 +8,7 @@ use utf8::edges::starts_with;
 ghost use mathlib.Core.Path.{_≡_};
 ghost use lib.ListN.{drop};
 ghost use Rattle.model.specs.Model.{strings};
-ghost use Rattle.model.specs.Search.{foundId};
+ghost use Rattle.model.specs.inner.Search.{foundId};
 ghost use Rattle.sections.specs.inner.Seek.{rowAt, rowBy, matchBy, soughtMatch};
 
 // The row of the longest content that `text` begins with, of equal ones the lower. The rows are walked from the last.

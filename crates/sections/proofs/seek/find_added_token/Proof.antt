@@ -6,7 +6,7 @@ use borrow.Author.Needs.{needs}
 use lib.ListN.{length, drop}
 use Rattle.utf8.proofs.Lists.{part-to-end}
 use Rattle.model.specs.Model.{strings}
-use Rattle.model.specs.Search.{foundId}
+use Rattle.model.specs.inner.Search.{foundId}
 use Rattle.sections.specs.inner.Seek.{placed, matchBy}
 use Rattle.sections.proofs.SeekLaws.{match-next, match-ended}
 use Rattle.sections.proofs.seek.find_added_token.Statement.{statement}
