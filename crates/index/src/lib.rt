@@ -1,6 +1,7 @@
 // Searches in the two sorted tables that begin from what was derived of them once.
 use model::Found;
 use model::compare::equal;
+use model::mark::MARK;
 use model::search::find_piece_between;
 use model::search::find_row_between;
 use model::tables::number_at;
@@ -31,12 +32,11 @@ pub fn id_of(id: u32) -> Found
 pub fn is_mark(key: &[u8]) -> bool
     ensures { λ r. ⌜ r ≡ same (now (key .entry)) mark ⌝ }
 {
-    let mark = [0xE2u8, 0x96, 0x81];
-    equal(key, &mark)
+    equal(key, &MARK)
 }
 
 // The first byte of `key`, 0 where it has none.
-fn first_byte(key: &[u8]) -> usize
+pub fn first_byte(key: &[u8]) -> usize
     ensures { λ r. ⌜ (r ≡ getD (now (key .entry)) 0 0) × (r < 256) ⌝ }
 {
     if key.len() == 0 {

@@ -1,19 +1,17 @@
 -- Laws of the next merge, over any function from pairs to rows: where it stands, and what it is in a list that is two lists joined
 -- with no row over the seam. Assumes nothing.
-use Prim.Native.Nat.{ℕ, zero, suc, _+_, _≤_}
+use Prim.Native.Nat.{ℕ, suc, _+_, _≤_}
 use native.Mathlib.Omega.{arith}
 use native.Mathlib.Nat.{add-zero, zero-add, add-assoc}
 use mathlib.Core.Path.{_≡_, refl, sym, ap, _∙_, subst}
 use mathlib.Core.Bool.{Bool, true, false, cond}
-use mathlib.Core.Logic.{_⊎_, inl, inr, ⊎-elim}
 use mathlib.Core.List.{List, [], _∷_, _++_, map, append-assoc}
 use mathlib.Core.Option.{Option, none, some, Option·map, Option·none-ne-some, Option·some-injective}
 use borrow.Author.Tests.{leb-true, leb-false, le-leb, lt-leb}
 use lib.Dec.{leb}
 use lib.ListN.{length, take, drop, length-append}
-use lib.Seq.{take-at, drop-at, take-append-add, drop-append-add, take-append-le, drop-append-le}
+use lib.Seq.{take-at, take-append-add, drop-append-add, take-append-le, drop-append-le}
 use Rattle.utf8.specs.Lists.{neighboursFrom, neighbours}
-use Rattle.utf8.proofs.Tests.{either}
 use Rattle.model.specs.Model.{Row}
 use Rattle.merge.specs.Merge.{Candidate, candidateAt, candidatesFrom, candidates, lowerRank, lowestRank, nextMerge, mergedAt}
 

@@ -1,19 +1,18 @@
 -- Laws of the pieces that ids stand for, in an accepted model: merges keep the bytes that ids spell, the starting ids of a character
 -- that is not dropped spell it, and ids whose strings no piece reaches across merge apart or joined alike. Assumes nothing.
-use Prim.Native.Nat.{ℕ, zero, suc, _+_, _≤_, _<_}
+use Prim.Native.Nat.{ℕ, _<_}
 use native.Mathlib.Omega.{arith}
-use native.Mathlib.Nat.{not-suc-le-zero}
 use mathlib.Core.Path.{_≡_, refl, sym, ap, ap₂, _∙_, subst}
 use mathlib.Core.Bool.{Bool, true, false, not, cond, _&&_, _||_}
-use mathlib.Core.List.{List, [], _∷_, _++_, map, append-assoc, append-nil, map-append}
+use mathlib.Core.List.{List, [], _∷_, _++_, map, append-assoc, append-nil}
 use mathlib.Core.Option.{Option, none, some, Option·none-ne-some, Option·some-injective}
-use borrow.Author.Tests.{ltb-true, ltb-false, eqb-true, eqb-false, eq-eqb}
+use borrow.Author.Tests.{ltb-true, ltb-false, eqb-true, eq-eqb}
 use lib.Dec.{eqb, ltb}
 use lib.ListN.{length, getD, length-append, List·getD-eq-default}
 use Rattle.utf8.specs.Lists.{isEmpty, all, any, join, joinMap, numbered, zip, same}
-use Rattle.utf8.proofs.Tests.{either, clash, and-left, and-right, and-both, or-left, or-right}
+use Rattle.utf8.proofs.Tests.{clash, and-left, and-right, and-both, or-left, or-right}
 use Rattle.utf8.proofs.Lists.{join-append, all-append}
-use Rattle.utf8.proofs.Places.{any-append, all-holds, length-zip, getD-zip, length-numbered, getD-numbered, getD-inside}
+use Rattle.utf8.proofs.Places.{any-append, all-holds, length-zip, getD-zip, length-numbered, getD-numbered}
 use Rattle.utf8.proofs.Starts.{same-eq, not-empty}
 use Rattle.utf8.proofs.Elements.{all-join, all-one, map-one, not-empty-long}
 use Rattle.utf8.proofs.Joins.{find-some, joinMap-append, joinMap-join}
@@ -23,7 +22,7 @@ use Rattle.model.proofs.RowLaws.{length-rows, row-is}
 use Rattle.model.proofs.Accepted.{Accepted}
 use Rattle.model.proofs.ReachLaws.{NoPieceOver, StringsApart}
 use Rattle.merge.specs.Merge.{Candidate, nextMerge, mergedAt, merged}
-use Rattle.merge.specs.Start.{Vocabulary, vocabularyOf, ifAny, isMissing, ownId, fallbackIds, startingIds, isDropped, lacksByte, startingIdsBy, isDroppedBy}
+use Rattle.merge.specs.Start.{vocabularyOf, ifAny, isMissing, ownId, fallbackIds, startingIds, isDropped, lacksByte, startingIdsBy, isDroppedBy}
 use Rattle.merge.proofs.NextLaws.{NoRow, next-found, merged-is}
 use Rattle.merge.proofs.MergedLaws.{Apart, by-merges, merged-none, merged-step, merged-apart}
 

@@ -8,3 +8,4 @@ pub mod StringLaws
 pub mod Accepted
 pub mod AnswerLaws
 pub mod ReachLaws
+pub mod ClearLaws

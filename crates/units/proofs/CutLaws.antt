@@ -1,16 +1,16 @@
 -- Where a unit starts, no piece reaches from the spelling of what stands before into that of what follows. Assumes nothing.
-use Prim.Native.Nat.{ℕ, zero, suc, _+_, _-_, _≤_, _<_}
+use Prim.Native.Nat.{ℕ, suc, _+_, _-_, _<_}
 use native.Mathlib.Omega.{arith}
-use native.Mathlib.Nat.{suc-ne-zero, zero-add}
-use mathlib.Core.Path.{_≡_, refl, sym, ap, ap₂, _∙_, subst}
+use native.Mathlib.Nat.{zero-add}
+use mathlib.Core.Path.{_≡_, refl, sym, ap, ap₂, _∙_}
 use mathlib.Core.Bool.{Bool, true, false, not, cond, _&&_, _||_, and-false}
 use mathlib.Core.Logic.{_⊎_, inl, inr, ⊎-elim}
-use mathlib.Core.List.{List, [], _∷_, _++_, map, append-assoc, append-nil}
-use borrow.Author.Tests.{eqb-true, eqb-false, eq-eqb, ne-eqb, ltb-true, ltb-false, lt-ltb, not-false, not-true}
+use mathlib.Core.List.{List, [], _∷_, _++_, append-assoc, append-nil}
+use borrow.Author.Tests.{eqb-true, eq-eqb, ltb-true, ltb-false, lt-ltb, not-true}
 use lib.Dec.{eqb, ltb}
-use lib.ListN.{length, take, drop, getD, length-append, length-drop, take-append-drop, drop-of-length-le, List·getD-eq-default}
+use lib.ListN.{length, take, drop, getD, length-append, take-append-drop, drop-of-length-le, List·getD-eq-default}
 use lib.Seq.{take-append-seam, drop-append-seam, drop-append-add, drop-drop, length-take-le, drop-cons, take-suc}
-use Rattle.utf8.specs.Lists.{all, any, filter, lastOr, join, joinMap, neighbours, neighboursFrom, below, same, startsWith, endsWith, within}
+use Rattle.utf8.specs.Lists.{any, filter, lastOr, neighbours, neighboursFrom, below, startsWith, endsWith, within}
 use Rattle.utf8.specs.Chars.{tail, charForms, charWidth, chars, isChar, valid}
 use Rattle.utf8.proofs.Tests.{either, clash, and-left, and-right, and-both, or-left, or-right, or-also}
 use Rattle.utf8.proofs.Lists.{lastOr-append}

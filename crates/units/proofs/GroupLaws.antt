@@ -1,7 +1,7 @@
 -- Units gathered into coarser parts: where some of the places at which units start cut a text too, each part is a row of units, and
 -- no piece reaches over a border within it. So the stretches from mark to mark of kind EveryMark are rows of its units.
 -- Assumes nothing.
-use Prim.Native.Nat.{ℕ, zero, suc, _+_, _-_, _≤_, _<_}
+use Prim.Native.Nat.{ℕ, zero, suc, _+_, _≤_}
 use native.Mathlib.Omega.{arith}
 use native.Mathlib.Nat.{zero-add}
 use mathlib.Core.Path.{_≡_, refl, sym, ap, _∙_, subst, subst₂}
@@ -10,9 +10,9 @@ use mathlib.Core.Logic.{_⊎_, inl, inr, ⊎-elim}
 use mathlib.Core.List.{List, [], _∷_, _++_, map, append-assoc, append-nil}
 use borrow.Author.Tests.{lt-ltb}
 use lib.Dec.{ltb}
-use lib.ListN.{length, take, drop, length-take, take-append-drop}
+use lib.ListN.{length, take, drop}
 use lib.Seq.{slice, slice-empty, take-take, length-take-le}
-use Rattle.utf8.specs.Lists.{filter, join, joinMap, countFrom, below, between}
+use Rattle.utf8.specs.Lists.{filter, join, joinMap, countFrom, between}
 use Rattle.utf8.specs.Chars.{chars}
 use Rattle.utf8.proofs.Tests.{clash, and-left, and-right, and-both}
 use Rattle.utf8.proofs.Lists.{join-append}
@@ -27,7 +27,7 @@ use Rattle.units.specs.Kinds.{crossings, kindOf}
 use Rattle.units.specs.Units.{holdsPair, markCuts, punctuationCuts, cutBy, cut, units}
 use Rattle.units.proofs.ShownLaws.{shownByte, shown, prefix, shown-append}
 use Rattle.units.proofs.CutLaws.{cut-at, cut-clear, mark-is, punctuation-uncrossed}
-use Rattle.units.proofs.UnitLaws.{spelledUnits, unspelled, partsFrom, part-ends, parts-join, part-before}
+use Rattle.units.proofs.UnitLaws.{spelledUnits, partsFrom, part-ends, parts-join, part-before}
 
 module _ (pieces : List (List ℕ)) (raw : Bool) where
   -- Units, and parts each of which is a row of them.

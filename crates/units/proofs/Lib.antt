@@ -4,9 +4,11 @@ pub mod AdjacencyLaws
 pub mod SpanLaws
 pub mod StartLaws
 pub mod NextLaws
-pub mod CrossingLaws
-pub mod NotingLaws
 pub mod ShownLaws
 pub mod CutLaws
 pub mod UnitLaws
 pub mod GroupLaws
+pub mod CrossingLaws
+pub mod NotingLaws
+pub mod RawLaws
+pub mod DerivedLaws

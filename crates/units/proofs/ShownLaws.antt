@@ -1,20 +1,18 @@
 -- Laws of a text as it is spelled, each raw space as the mark: where its parts come from, where it holds no mark. Assumes nothing.
-use Prim.Native.Nat.{ℕ, zero, suc, _+_, _-_, _≤_, _<_}
-use native.Mathlib.Omega.{arith}
+use Prim.Native.Nat.{ℕ, zero, suc}
 use native.Mathlib.Nat.{suc-ne-zero}
 use mathlib.Core.Path.{_≡_, refl, sym, ap, ap₂, _∙_}
 use mathlib.Core.Bool.{Bool, true, false, not, cond, _&&_, _||_}
-use mathlib.Core.Logic.{_⊎_, inl, inr, ⊎-elim}
-use mathlib.Core.List.{List, [], _∷_, _++_, map, append-assoc, append-nil}
-use borrow.Author.Tests.{eqb-true, eqb-false, eq-eqb, ne-eqb}
+use mathlib.Core.Logic.{_⊎_, inl, inr}
+use mathlib.Core.List.{List, [], _∷_, _++_, map}
+use borrow.Author.Tests.{eqb-true, eq-eqb}
 use lib.Dec.{eqb, ltb}
-use lib.ListN.{length, take, drop, getD, length-append, take-append-drop}
+use lib.ListN.{length, drop, getD}
 use lib.Seq.{drop-append-seam}
-use Rattle.utf8.specs.Lists.{all, any, join, joinMap, countFrom, below, same, startsWith, endsWith, within}
-use Rattle.utf8.specs.Chars.{tail}
-use Rattle.utf8.proofs.Tests.{either, clash, and-left, and-right, and-both, or-left, or-right, or-also}
+use Rattle.utf8.specs.Lists.{all, any, join, joinMap, countFrom, startsWith, endsWith}
+use Rattle.utf8.proofs.Tests.{clash, and-left, and-right, and-both, or-right}
 use Rattle.utf8.proofs.Characters.{startsInTail}
-use Rattle.utf8.proofs.Joins.{append-cancel, joinMap-append, starts-append, starts-rest, ends-append, oneStart, Seam, begins-between}
+use Rattle.utf8.proofs.Joins.{append-cancel, joinMap-append, starts-rest, ends-append, oneStart, begins-between}
 use Rattle.model.specs.Mark.{mark, space, markWidth, startsWithMark, endsWithMark}
 use Rattle.units.specs.Kinds.{holdsMark}
 

@@ -1,14 +1,14 @@
 -- Units laid end to end: they join to the section, their characters are its characters, and no piece reaches over a border.
 -- Assumes nothing.
-use Prim.Native.Nat.{ℕ, zero, suc, _+_, _-_, _≤_, _<_}
+use Prim.Native.Nat.{ℕ, zero, suc, _+_, _≤_}
 use native.Mathlib.Omega.{arith}
-use native.Mathlib.Nat.{suc-ne-zero, zero-add}
-use mathlib.Core.Path.{_≡_, refl, sym, ap, ap₂, _∙_, subst}
+use native.Mathlib.Nat.{zero-add}
+use mathlib.Core.Path.{_≡_, refl, sym, ap, _∙_, subst}
 use mathlib.Core.Bool.{Bool, true, false, cond, false≢true}
-use mathlib.Core.List.{List, [], _∷_, _++_, map, append-assoc, append-nil}
-use lib.ListN.{length, take, drop, length-append, length-take, take-append-drop}
-use lib.Seq.{slice, take-all, take-length, length-take-le, drop-append-le}
-use Rattle.utf8.specs.Lists.{filter, join, joinMap, countFrom, below, between}
+use mathlib.Core.List.{List, [], _∷_, _++_, map, append-nil}
+use lib.ListN.{length, take, drop, take-append-drop}
+use lib.Seq.{slice, take-all, length-take-le, drop-append-le}
+use Rattle.utf8.specs.Lists.{filter, join, joinMap, countFrom, between}
 use Rattle.utf8.specs.Chars.{chars}
 use Rattle.utf8.proofs.Characters.{startsInTail, chars-append}
 use Rattle.utf8.proofs.Joins.{joinMap-join}

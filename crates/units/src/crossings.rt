@@ -152,7 +152,7 @@ pub fn unit_crossing_pieces(
 }
 
 // Whether metaspace splits.
-fn metaspace_splits(metaspace: Metaspace) -> bool
+pub(crate) fn metaspace_splits(metaspace: Metaspace) -> bool
     ensures { λ r. ⌜ r ≡ splits metaspace ⌝ }
 {
     match metaspace {

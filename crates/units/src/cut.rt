@@ -20,7 +20,7 @@ ghost use Rattle.units.specs.Next.{nextUnit};
 ghost use Rattle.units.specs.inner.Around.{starters};
 
 // Whether sections are cut at all.
-fn divides(kind: WordSplit) -> bool
+pub(crate) fn divides(kind: WordSplit) -> bool
     ensures { λ r. ⌜ r ≡ not (isNone kind) ⌝ }
 {
     match kind {

@@ -3,6 +3,7 @@
 pub mod adjacency;
 pub mod crossings;
 pub mod cut;
+pub mod raw;
 pub mod spans;
 
 // The kind of split.

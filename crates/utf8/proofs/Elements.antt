@@ -9,7 +9,7 @@ use mathlib.Core.List.{List, [], _∷_, _++_, map}
 use borrow.Author.Tests.{eqb-true}
 use lib.Dec.{eqb}
 use lib.ListN.{length, getD}
-use Rattle.utf8.specs.Lists.{isEmpty, all, any, filter, count, join, joinMap, sum}
+use Rattle.utf8.specs.Lists.{isEmpty, all, any, filter, count, join, joinMap}
 use Rattle.utf8.proofs.Tests.{either, clash, and-left, and-right, and-both}
 use Rattle.utf8.proofs.Lists.{all-append}
 use Rattle.utf8.proofs.Places.{any-one, any-append}

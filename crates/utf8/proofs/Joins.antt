@@ -1,20 +1,20 @@
 -- Laws of lists that are joined, of what a text starts and ends with, and of parts of valid texts. Assumes nothing.
-use Prim.Native.Nat.{ℕ, zero, suc, _+_, _-_, _≤_, _<_, max}
+use Prim.Native.Nat.{ℕ, zero, suc, _-_, _<_, max}
 use native.Mathlib.Omega.{arith}
 use native.Mathlib.Nat.{suc-ne-zero}
 use mathlib.Core.Path.{_≡_, refl, sym, ap, ap₂, _∙_}
 use mathlib.Core.Bool.{Bool, true, false, not, cond, _&&_}
 use mathlib.Core.Logic.{⊎-elim}
-use mathlib.Core.List.{List, [], _∷_, _++_, map, append-assoc, map-append}
-use mathlib.Core.Option.{Option, none, some, Option·none-ne-some, Option·some-injective}
+use mathlib.Core.List.{List, [], _∷_, _++_, map, append-assoc}
+use mathlib.Core.Option.{some, Option·none-ne-some, Option·some-injective}
 use borrow.Author.Tests.{eq-eqb, ltb-true, ltb-false, lt-ltb}
-use lib.Dec.{eqb, ltb}
+use lib.Dec.{ltb}
 use lib.ListN.{length, take, drop, getD, length-append, length-take, length-drop, take-append-drop}
 use lib.Seq.{drop-append-seam, drop-at, getD-take}
 use Rattle.utf8.specs.Lists.{isEmpty, all, find, join, joinMap, same, startsWith, endsWith, within}
 use Rattle.utf8.specs.Chars.{tail, charForms, charWidth, chars, valid}
 use Rattle.utf8.proofs.Tests.{either, within-low, and-left, and-right, and-both, clash}
-use Rattle.utf8.proofs.Lists.{by-length, join-append}
+use Rattle.utf8.proofs.Lists.{by-length}
 use Rattle.utf8.proofs.Characters.{startsInTail, char-starts, charWidth-lead, charWidth-le-length, char-tails, chars-nil, chars-step, chars-append}
 use Rattle.utf8.proofs.Valid.{starts-with-char, valid-append, valid-cut, chars-valid-append}
 use Rattle.utf8.proofs.Starts.{not-empty, starts-front, same-refl, same-eq}

@@ -5,7 +5,7 @@ use Prim.Native.Nat.{_-_, _≤_}
 use borrow.Author.Needs.{needs}
 use lib.ListN.{length, take}
 use Rattle.model.specs.Answers.{zeros}
-use Rattle.normalise.proofs.FinishLaws.{cleared-none, cleared-next, cleared-all}
+use Rattle.model.proofs.ClearLaws.{cleared-none, cleared-next, cleared-all}
 use Rattle.normalise.proofs.finish.clear_from.Statement.{statement}
 use Rattle.normalise.proofs.finish.clear_from.Tie as tie
 

@@ -1,0 +1,4 @@
+-- Laws on what is derived of a model, and how it is laid out.
+pub mod WalkLaws
+pub mod LayoutLaws
+pub mod PutLaws

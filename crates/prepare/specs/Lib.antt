@@ -1,0 +1,4 @@
+pub mod Layout
+pub mod Numbers
+pub mod Prepare
+pub mod inner

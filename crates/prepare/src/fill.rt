@@ -1,0 +1,125 @@
+// The parts of the index, each into its place.
+use crate::walk::below_from;
+use crate::walk::first_below_from;
+use model::Found;
+use model::mark::MARK;
+use model::search::find_piece;
+use model::tables::number_at;
+use model::tables::string_count;
+ghost use mathlib.Core.Path.{_≡_};
+ghost use mathlib.Core.Bool.{true};
+ghost use mathlib.Core.List.{_++_};
+ghost use Prim.Native.Nat.{_+_, _-_, _^_, _≤_, _<_};
+ghost use lib.ListN.{length, take, drop};
+ghost use Rattle.model.specs.Check.{lookupAscends};
+ghost use Rattle.model.specs.Model.{strings};
+ghost use Rattle.index.specs.Index.{firstBytes, markId, bucketShift, buckets};
+ghost use Rattle.prepare.specs.Layout.{indexLength, firstBytesAt, bucketsAt, crossingsAt, indexRow};
+
+// Where the entries of each first byte begin.
+fn fill_first_bytes(piece_bytes: &[u8], piece_offsets: &[u32], lookup: &[u32], words: &mut [u32])
+    requires { ⌜ length (now lookup) < 4294967296 ⌝ }
+    requires { ⌜ firstBytesAt + 257 ≤ length (now words) ⌝ }
+    ensures { λ _. ⌜ now (words .exit) ≡ take firstBytesAt (now (words .entry)) ++ firstBytes (strings (now («piece_bytes» .entry)) (now («piece_offsets» .entry))) (now (lookup .entry)) ++ drop (firstBytesAt + 257) (now (words .entry)) ⌝ }
+{
+    let mut at = 0;
+    let mut b = 0;
+    while b < 257 {
+        at = first_below_from(piece_bytes, piece_offsets, lookup, at, b);
+        words[crate::FIRST_BYTES_AT + b] = at as u32;
+        b += 1;
+    }
+}
+
+// Where the rows of each bucket of left ids begin.
+fn fill_buckets(left: &[u32], shift: u32, words: &mut [u32])
+    requires { ⌜ length (now left) < 4294967296 ⌝ }
+    requires { ⌜ bucketsAt + 4097 ≤ length (now words) ⌝ }
+    requires { ⌜ shift ≤ 7 ⌝ }
+    ensures { λ _. ⌜ now (words .exit) ≡ take bucketsAt (now (words .entry)) ++ buckets (now (left .entry)) shift ++ drop (bucketsAt + 4097) (now (words .entry)) ⌝ }
+{
+    let size = power(shift);
+    let mut at = 0;
+    let mut b = 0;
+    while b < 4097 {
+        at = below_from(left, at, b * size);
+        words[crate::BUCKETS_AT + b] = at as u32;
+        b += 1;
+    }
+}
+
+fn power(shift: u32) -> usize
+    requires { ⌜ shift ≤ 7 ⌝ }
+    ensures { λ r. ⌜ (r ≡ 2 ^ shift) × (r ≤ 128) ⌝ }
+{
+    1usize << shift
+}
+
+// The shift of the buckets for so many pieces.
+fn bucket_shift(count: usize) -> u32
+    ensures { λ r. ⌜ (r ≡ bucketShift count) × (r ≤ 7) ⌝ }
+{
+    let mut room = 4096;
+    let mut shift = 0;
+    while shift < 7 {
+        if count <= room {
+            return shift;
+        }
+        room = room * 2;
+        shift += 1;
+    }
+    shift
+}
+
+// The mark's id as a number.
+fn mark_id(piece_bytes: &[u8], piece_offsets: &[u32], lookup: &[u32]) -> u32
+    requires { ⌜ lookupAscends (strings (now «piece_bytes») (now «piece_offsets»)) (now lookup) ≡ true ⌝ }
+    ensures { λ r. ⌜ r ≡ markId (strings (now («piece_bytes» .entry)) (now («piece_offsets» .entry))) (now (lookup .entry)) ⌝ }
+{
+    match find_piece(piece_bytes, piece_offsets, lookup, &MARK) {
+        Found::At(place) => number_at(lookup, place),
+        Found::Nothing => 4294967295,
+    }
+}
+
+fn copy_crossings(noted: &[u32], words: &mut [u32])
+    requires { ⌜ crossingsAt + length (now noted) ≤ length (now words) ⌝ }
+    ensures { λ _. ⌜ now (words .exit) ≡ take crossingsAt (now (words .entry)) ++ now (noted .entry) ++ drop (crossingsAt + length (now (noted .entry))) (now (words .entry)) ⌝ }
+{
+    let mut i = 0;
+    while i < noted.len() {
+        words[crate::CROSSINGS_AT + i] = noted[i];
+        i += 1;
+    }
+}
+
+// The whole index into the front of `words`. What is derived of steps and crossings is given.
+pub fn fill_index(
+    kind: u32,
+    raw_path: u32,
+    count: u32,
+    noted: &[u32],
+    piece_bytes: &[u8],
+    piece_offsets: &[u32],
+    lookup: &[u32],
+    left: &[u32],
+    words: &mut [u32],
+)
+    requires { ⌜ lookupAscends (strings (now «piece_bytes») (now «piece_offsets»)) (now lookup) ≡ true ⌝ }
+    requires { ⌜ length (now lookup) < 4294967296 ⌝ }
+    requires { ⌜ length (now left) < 4294967296 ⌝ }
+    requires { ⌜ length (now noted) ≡ 64 ⌝ }
+    requires { ⌜ indexLength ≤ length (now words) ⌝ }
+    ensures { λ _. ⌜ now (words .exit) ≡ indexRow kind «raw_path» count (now (noted .entry)) (strings (now («piece_bytes» .entry)) (now («piece_offsets» .entry))) (now (lookup .entry)) (now (left .entry)) ++ drop indexLength (now (words .entry)) ⌝ }
+{
+    let shift = bucket_shift(string_count(piece_offsets));
+    let mark = mark_id(piece_bytes, piece_offsets, lookup);
+    words[crate::KIND_AT] = kind;
+    words[crate::RAW_PATH_AT] = raw_path;
+    words[crate::CROSSING_COUNT_AT] = count;
+    copy_crossings(noted, words);
+    words[crate::MARK_ID_AT] = mark;
+    words[crate::SHIFT_AT] = shift;
+    fill_first_bytes(piece_bytes, piece_offsets, lookup, words);
+    fill_buckets(left, shift, words);
+}
