@@ -1,15 +1,14 @@
 -- Laws of the merge in place on the front of a buffer. Assumes nothing.
-use Prim.Native.Nat.{ℕ, suc, _+_, _-_, _≤_, _<_, min}
+use Prim.Native.Nat.{ℕ, suc, _+_, _-_, _≤_, min}
 use native.Mathlib.Nat.{sub-self}
 use native.Mathlib.Omega.{arith}
 use mathlib.Core.Path.{_≡_, refl, sym, ap, _∙_}
-use mathlib.Core.Bool.{Bool, true, false}
 use mathlib.Core.Logic.{⊎-elim}
 use mathlib.Core.List.{List, [], _∷_, _++_, append-assoc}
 use mathlib.Core.Option.{Option, none, some}
 use borrow.Author.Tests.{leb-true, leb-false}
 use lib.Dec.{leb}
-use lib.ListN.{length, take, drop, length-append, length-drop, take-append-drop, drop-of-length-le, replicate, length-replicate}
+use lib.ListN.{length, take, drop, length-append, length-drop, take-append-drop, drop-of-length-le, length-replicate}
 use lib.Seq.{take-at, drop-at, take-all, take-length, drop-length, length-take-le}
 use Rattle.utf8.proofs.Tests.{either}
 use Rattle.model.specs.Model.{Row}

@@ -7,3 +7,4 @@ pub mod StartLaws
 pub mod WalkLaws
 pub mod TurnLaws
 pub mod FrontLaws
+pub mod ModelLaws

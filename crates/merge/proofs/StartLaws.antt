@@ -3,9 +3,9 @@ use Prim.Native.Nat.{ℕ, _+_, _≤_, _<_, min}
 use native.Mathlib.Omega.{arith}
 use native.Mathlib.Numerals.{add-one}
 use mathlib.Core.Path.{_≡_, refl, sym, ap, _∙_}
-use mathlib.Core.Bool.{Bool, true, false, cond, _||_}
+use mathlib.Core.Bool.{Bool, true, false, cond}
 use mathlib.Core.List.{List, [], _∷_, _++_}
-use mathlib.Core.Option.{Option, none, some, Option·none-ne-some, Option·some-injective}
+use mathlib.Core.Option.{none, some, Option·none-ne-some, Option·some-injective}
 use mathlib.Core.Logic.{⊎-elim}
 use borrow.Author.Tests.{ltb-true, ltb-false}
 use lib.Dec.{eqb, ltb}
@@ -22,7 +22,6 @@ use Rattle.model.specs.Mark.{mark}
 use Rattle.index.specs.inner.Find.{keyStart, keyEnd, idFrom}
 use Rattle.index.specs.inner.Find as indexed
 use Rattle.merge.specs.declared.Own.the-variants.{Id, Missing}
-use Rattle.merge.specs.declared.Symbols.{Symbols}
 use Rattle.merge.specs.Start.{ifAny, isMissing, fallbackIds, lacksByte}
 use Rattle.merge.specs.inner.Laid.{Laid, idOf, ownFound, laidIn}
 use Rattle.merge.proofs.Laying.{Laying, laying-start, laying-one, laying-full, laying-ended, counted-ended}

@@ -1,29 +1,28 @@
 -- Laws of the merge turn by turn: the row of a pair, the next merge among pairs, a merge in place. Assumes nothing.
-use Prim.Native.Nat.{ℕ, zero, suc, _+_, _-_, _/_, _^_, _≤_, _<_, min}
-use native.Mathlib.Nat.{zero-add, add-zero}
+use Prim.Native.Nat.{ℕ, suc, _+_, _-_, _/_, _^_, _≤_, _<_, min}
 use native.Mathlib.Omega.{arith}
 use native.Mathlib.Numerals.{add-one}
-use mathlib.Core.Path.{_≡_, refl, sym, ap, ap₂, _∙_}
+use mathlib.Core.Path.{_≡_, refl, sym, ap, _∙_}
 use mathlib.Core.Bool.{Bool, true, false, cond}
-use mathlib.Core.List.{List, [], _∷_, _++_, append-assoc}
+use mathlib.Core.List.{List, [], _∷_, _++_}
 use mathlib.Core.Option.{Option, none, some}
 use borrow.Author.Tests.{leb-true, leb-false, le-leb, lt-leb}
 use lib.Dec.{leb}
 use lib.ListN.{length, take, drop, getD, set, length-append, length-take, length-drop, take-append-drop, drop-of-length-le}
-use lib.Seq.{drop-cons, take-at, drop-at, take-append-le, drop-append-le, take-suc-set, drop-set-lt, length-take-le, getD-drop, getD-append-add, set-at, take-take, append-snoc}
+use lib.Seq.{drop-cons, take-at, drop-at, take-suc-set, drop-set-lt, length-take-le, getD-drop, set-at, append-snoc}
 use Rattle.utf8.proofs.Writing.{Begins, Written, written-length, written-byte, written-ended}
 use Rattle.utf8.specs.Lists.{neighbours}
 use Rattle.utf8.proofs.Places.{length-neighbours, getD-neighbours}
 use Rattle.model.specs.declared.Found.{Found}
 use Rattle.model.specs.declared.Found.the-variants.{At, Nothing}
-use Rattle.model.specs.Model.{Row, rowsOf}
-use Rattle.model.specs.inner.Search.{rowOrder, rowFound}
+use Rattle.model.specs.Model.{Row}
+use Rattle.model.specs.Search.{rowOrder, rowFound}
 use Rattle.model.proofs.SearchLaws.{found-below}
 use Rattle.model.proofs.RowLaws.{row-is}
 use Rattle.index.specs.inner.Find.{rowFrom}
 use Rattle.merge.specs.declared.Turn.{Turn}
 use Rattle.merge.specs.declared.Turn.the-variants.{Merge, Stop}
-use Rattle.merge.specs.Merge.{Candidate, candidateAt, candidatesFrom, candidates, lowerRank, lowestRank, nextMerge}
+use Rattle.merge.specs.Merge.{Candidate, candidateAt, candidatesFrom, candidates, lowestRank, nextMerge}
 use Rattle.merge.specs.inner.Turns.{rowIn, turnAt, turnOf, lowerTurn, joinedAt}
 use Rattle.merge.proofs.NextLaws.{lowerOf, lowest-append}
 

@@ -1,5 +1,5 @@
 -- Laws of a walk over the characters of a unit: what one gives, and the walk from character to character. Assumes nothing.
-use Prim.Native.Nat.{ℕ, zero, suc, _+_, _-_, _≤_, _<_, min, max}
+use Prim.Native.Nat.{ℕ, suc, _+_, _-_, _≤_, _<_, min, max}
 use native.Mathlib.Nat.{zero-add, sub-zero, zero-min, suc-min-suc}
 use native.Mathlib.Omega.{arith}
 use mathlib.Core.Path.{_≡_, refl, sym, ap, _∙_}
@@ -7,8 +7,7 @@ use mathlib.Core.Bool.{Bool, true, false, not, cond, _&&_}
 use mathlib.Core.List.{List, [], _∷_, _++_, append-nil}
 use mathlib.Core.Option.{Option, none, some}
 use borrow.Author.Tests.{not-true, not-false}
-use lib.ListN.{length, take, drop, set, length-append, length-take, length-drop, drop-of-length-le}
-use lib.Seq.{take-all}
+use lib.ListN.{length, take, drop, set, length-take, length-drop, drop-of-length-le}
 use Rattle.utf8.specs.Lists.{joinMap, same}
 use Rattle.utf8.specs.Lists as lists
 use Rattle.utf8.specs.Chars.{chars, charWidth}

@@ -1,9 +1,9 @@
 -- `merge::ranked::bpe_merge_symbols_ranked` meets its contract. The loop's invariant: the `n` ids that are left merge to what the first
 -- ones merge to.
 use native.Mathlib.Omega.{arith}
-use mathlib.Core.Path.{sym, _∙_}
+use mathlib.Core.Path.{sym}
 use borrow.Author.Needs.{needs}
-use lib.ListN.{length, take}
+use lib.ListN.{take}
 use lib.Seq.{length-take-le}
 use Rattle.merge.specs.Merge.{nextMerge}
 use Rattle.merge.specs.inner.Turns.{rowIn}

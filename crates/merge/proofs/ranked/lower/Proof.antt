@@ -19,7 +19,7 @@ enum-known-second c = search needs
 returns : tie.Need-returns
 returns c =
     let o = c .before .before in
-    lower-first (o .before .before .before .first .given .1) (o .second .given .1) (c .if1 .taken)
+    lower-first (o .before .before .before .first .given .1) (o .second .given .1) (search needs)
 
 returns-2 : tie.Need-returns-2
 returns-2 c = search needs
@@ -30,7 +30,7 @@ returns-3 c = lower-alone (c .before .before .before .first .given .1) (c .enum-
 returns-4 : tie.Need-returns-4
 returns-4 c =
     let o = c .before .before in
-    lower-second (o .before .before .before .first .given .1) (o .second .given .1) (c .if1 .left)
+    lower-second (o .before .before .before .first .given .1) (o .second .given .1) (search needs)
 
 pub lower-spec : {M : Type 1} → statement M
 lower-spec =

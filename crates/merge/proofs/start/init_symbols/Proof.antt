@@ -5,7 +5,7 @@ use borrow.Author.Needs.{needs}
 use lib.ListN.{length, take, drop, length-take}
 use Rattle.merge.specs.Start.{asMark, unitChars}
 use Rattle.merge.specs.inner.Laid.{ownFound, markedChars}
-use Rattle.merge.proofs.WalkLaws.{Stepped, stepped, unit-at, unit-over, Walked, walked-start, walked-next, walked-ended, given, given-one, mark-one, Onward, onward-start, onward-next}
+use Rattle.merge.proofs.WalkLaws.{Stepped, stepped, unit-at, unit-over, Walked, walked-start, walked-ended, given, given-one, mark-one, Onward, onward-start, onward-next}
 use Rattle.merge.proofs.start.init_symbols.Statement.{statement}
 use Rattle.merge.proofs.start.init_symbols.Tie as tie
 

@@ -1,6 +1,4 @@
 -- `merge::start::spell_as` meets its contract.
-use mathlib.Core.List.{List}
-use Prim.Native.Nat.{ℕ}
 use borrow.Author.Needs.{needs}
 use Rattle.model.specs.Mark.{mark}
 use Rattle.merge.proofs.WalkLaws.{as-plain, as-mark, as-other}
