@@ -2,3 +2,4 @@
 pub mod WalkLaws
 pub mod LayoutLaws
 pub mod PutLaws
+pub mod PrepareLaws

@@ -1,2 +1,3 @@
 -- Definitions that only the contracts of inner functions need.
+pub mod Derive
 pub mod Walk

@@ -1,5 +1,6 @@
 // What is derived of a model once: the byte-adjacency rows, and the index.
 
+mod derive;
 mod fill;
 pub mod numbers;
 mod rows;

@@ -1,0 +1,127 @@
+-- The outcome of prepare by the first test that applies, and what is derived by the tables that it is derived of.
+use mathlib.Core.Path.{_≡_, refl, sym, ap, _∙_}
+use mathlib.Core.Bool.{Bool, true, false, cond, _||_}
+use mathlib.Core.List.{List, [], _∷_, _++_}
+use Prim.Native.Nat.{ℕ, _+_, _*_, _-_, _≤_, _<_}
+use native.Mathlib.Omega.{arith}
+use borrow.Author.Tests.{ltb-false, lt-ltb, le-ltb, ne-eqb}
+use lib.Dec.{ltb, eqb}
+use lib.ListN.{length, length-append, length-replicate, length-map}
+use Rattle.utf8.specs.Lists.{isEmpty, any, joinMap}
+use Rattle.utf8.proofs.Tests.{or-right}
+use Rattle.utf8.proofs.Places.{empty-by-length}
+use Rattle.utf8.proofs.Fronts.{length-row}
+use Rattle.model.specs.Model.{Model, strings, contents, piecesOf, stepsOf}
+use Rattle.model.specs.Answers.{lowest, zeros, done, refused, filled}
+use Rattle.model.specs.Check.{modelTests, checkNumber, textTooLong}
+use Rattle.model.specs.declared.Metaspace.{Metaspace}
+use Rattle.model.proofs.AnswerLaws.{lowest-later, lowest-first, tests-positive, tests-of-check}
+use Rattle.model.proofs.StringLaws.{length-strings}
+use Rattle.model.proofs.CompleteLaws.{lookup-length}
+use Rattle.model.proofs.Accepted.{Accepted}
+use Rattle.units.specs.Kinds.{Crossing, crossings, isTangled, splits, wordSplit, kindOf, rawPath}
+use Rattle.units.specs.Adjacency.{adjacency, adjacencyWord}
+use Rattle.units.specs.Derived.{Place, crossingPlaces, crossingOf, notedOf, placeWords, notedWords, noting, rawPathBy}
+use Rattle.units.specs.declared.WordSplit.{WordSplit}
+use Rattle.units.specs.declared.WordSplit.the-variants.{SpaceRuns, EveryMark, None}
+use Rattle.units.proofs.NotingLaws.{crossings-by-place}
+use Rattle.prepare.specs.Layout.{indexRow}
+use Rattle.prepare.specs.Prepare.{derivedAdjacency, derivedIndex, PrepareOutcome, prepareNumber, prepareOutcome}
+use Rattle.prepare.specs.inner.Derive.{indexOf}
+
+-- ---- the outcome
+
+module _ (m : Model) (rows index : List ℕ) where
+  abbrev short : Bool
+  short = ltb (length rows) 1024 || ltb (length index) 4423
+
+  -- A refusal leaves both rows as they were.
+  abbrev kept : ℕ → PrepareOutcome
+  kept number = record { answer = refused number 0; adjacency = rows; index = index }
+
+  of-check : lowest (modelTests m 0) ≡ checkNumber m
+  unfolding textTooLong
+  of-check = tests-of-check m 0 refl
+
+  pub bad-model : (checkNumber m ≡ 0 → ⊥) → prepareOutcome m rows index ≡ kept (checkNumber m)
+  unfolding prepareOutcome prepareNumber
+  bad-model h =
+      let some : lowest (modelTests m 0) ≡ 0 → ⊥ = λ z. h (sym of-check ∙ z) in
+      rw (lowest-first (modelTests m 0) ((12, short) ∷ []) some, of-check, ne-eqb (checkNumber m) 0 h)
+
+  module _ (fine : checkNumber m ≡ 0) where
+    later : prepareNumber m (length rows) (length index) ≡ lowest ((12, short) ∷ [])
+    unfolding prepareNumber
+    later = lowest-later (modelTests m 0) ((12, short) ∷ []) (tests-positive m 0) (of-check ∙ fine)
+
+    pub short-rows : length rows < 1024 → prepareOutcome m rows index ≡ kept 12
+    unfolding prepareOutcome
+    short-rows h = rw (later, lt-ltb (length rows) 1024 h)
+
+    pub short-index : 1024 ≤ length rows → length index < 4423 → prepareOutcome m rows index ≡ kept 12
+    unfolding prepareOutcome
+    short-index h k = rw (later, le-ltb (length rows) 1024 h, lt-ltb (length index) 4423 k)
+
+    pub prepared : 1024 ≤ length rows → 4423 ≤ length index → prepareOutcome m rows index ≡ record { answer = done 5447 0 0; adjacency = filled (derivedAdjacency m) rows; index = filled (derivedIndex m) index }
+    unfolding prepareOutcome
+    prepared h k = rw (later, le-ltb (length rows) 1024 h, le-ltb (length index) 4423 k)
+
+-- ---- crossings that are noted
+
+words-long : (places : List Place) → length (joinMap placeWords places) ≡ length places * 2
+unfolding placeWords
+words-long [] = refl
+words-long (p ∷ ps) = omega (arith, words-long ps)
+
+module _ (pieces : List (List ℕ)) (metaspace : Metaspace) where
+  abbrev kind : WordSplit
+  kind = wordSplit (crossings pieces) metaspace
+
+  -- no more than 32 are noted
+  few-noted : length (notedOf kind pieces) ≤ 32
+  unfolding wordSplit notedOf
+  few-noted = go (splits metaspace) (any isTangled (crossings pieces) || ltb 32 (length (crossings pieces))) refl refl
+    where
+      go : (s t : Bool) → splits metaspace ≡ s → (any isTangled (crossings pieces) || ltb 32 (length (crossings pieces))) ≡ t → length (notedOf kind pieces) ≤ 32
+      go true t e f = rw e (omega arith)
+      go false true e f = rw (e, f) (omega arith)
+      go false false e f =
+          rw (e, f)
+          (omega
+          (arith, ltb-false 32 (length (crossings pieces)) (or-right (any isTangled (crossings pieces)) (ltb 32 (length (crossings pieces))) f), ap length (crossings-by-place pieces), length-map (crossingPlaces pieces) (crossingOf pieces)))
+
+  pub few-counted : noting pieces kind .count ≤ 32
+  unfolding noting
+  few-counted = few-noted
+
+  pub noted-long : length (noting pieces kind .noted) ≡ 64
+  unfolding noting notedWords
+  noted-long =
+      let places = notedOf kind pieces in
+      let words = joinMap placeWords places in
+      length-append words (zeros (64 - length words)) ∙ omega (arith, words-long places, few-noted, length-replicate {A = ℕ} (64 - length words) 0)
+
+pub length-adjacency : (pieces : List (List ℕ)) → length (adjacency pieces) ≡ 1024
+unfolding adjacency
+length-adjacency pieces = length-row (adjacencyWord pieces) 1024
+
+-- ---- a whole model
+
+module _ (m : Model) where
+  abbrev secondEmpty : Bool
+  secondEmpty = eqb (length (m .second .offsets) - 1) 0
+
+  pub index-of : indexOf (piecesOf m) (m .lookup) (m .left) secondEmpty (m .stepBytes) (stepsOf m) (m .metaspace) ≡ derivedIndex m
+  unfolding indexOf derivedIndex kindOf rawPath rawPathBy contents
+  index-of = rw (empty-by-length (strings (m .second .bytes) (m .second .offsets)), length-strings (m .second .bytes) (m .second .offsets))
+
+  -- what an accepted model's tables are known to be
+  module _ (ok : Accepted m) where
+    pub lookup-small : length (m .lookup) < 4294967296
+    unfolding piecesOf
+    lookup-small =
+        omega
+        (arith, lookup-length (piecesOf m) (m .lookup) (ok .lookupNames) (ok .lookupRises), length-strings (m .pieceBytes) (m .pieceOffsets), ok .sizes .pieceLimit)
+
+    pub left-small : length (m .left) < 4294967296
+    left-small = omega (arith, ok .sizes .rowLimit)
