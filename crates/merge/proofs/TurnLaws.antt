@@ -16,7 +16,7 @@ use Rattle.utf8.proofs.Places.{length-neighbours, getD-neighbours}
 use Rattle.model.specs.declared.Found.{Found}
 use Rattle.model.specs.declared.Found.the-variants.{At, Nothing}
 use Rattle.model.specs.Model.{Row}
-use Rattle.model.specs.Search.{rowOrder, rowFound}
+use Rattle.model.specs.inner.Search.{rowOrder, rowFound}
 use Rattle.model.proofs.SearchLaws.{found-below}
 use Rattle.model.proofs.RowLaws.{row-is}
 use Rattle.index.specs.inner.Find.{rowFrom}
