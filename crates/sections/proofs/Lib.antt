@@ -3,3 +3,6 @@ pub mod SeekLaws
 pub mod StripLaws
 pub mod InsideLaws
 pub mod TakenLaws
+pub mod SectionLaws
+pub mod PartLaws
+pub mod StepLaws
