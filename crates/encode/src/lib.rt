@@ -1,1 +1,3 @@
 // Text to ids.
+mod stretch;
+mod unit;
