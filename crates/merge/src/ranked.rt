@@ -1,9 +1,9 @@
 // The plain ranked merge, in place.
 use crate::Turn;
 use crate::memo::known_row;
-use crate::start::lesser;
 use index::find_row_from;
 use model::Found;
+use model::tables::lesser;
 use model::tables::number_at;
 ghost use mathlib.Core.Path.{_≡_};
 ghost use Prim.Native.Nat.{_+_, _≤_};

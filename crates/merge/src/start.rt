@@ -5,18 +5,17 @@ use index::find_id;
 use model::Found;
 use model::compare::equal;
 use model::fallback::fallback_id;
+use model::mark::MARK;
+use model::tables::lesser;
 use utf8::chars::char_width;
 ghost use mathlib.Core.Path.{_≡_};
 ghost use mathlib.Core.Bool.{cond};
 ghost use mathlib.Core.List.{[]};
-ghost use Prim.Native.Nat.{max, min};
+ghost use Prim.Native.Nat.{max};
 ghost use Rattle.utf8.specs.Chars.{charWidth};
 ghost use Rattle.model.specs.Mark.{mark};
 ghost use Rattle.merge.specs.Start.{fallbackIds, lacksByte, asMark};
 ghost use Rattle.merge.specs.inner.Laid.{Laid, idOf, ownFound, laidIn, charLaid, markedChars, unitLaid, unitSymbols};
-
-// The bytes of the mark.
-const MARK: [u8; 3] = [0xE2, 0x96, 0x81];
 
 // The id of a character's own piece.
 fn own_id(
@@ -191,15 +190,6 @@ fn char_step(text: &[u8]) -> usize
         return 1;
     }
     w
-}
-
-pub(crate) fn lesser(a: usize, b: usize) -> usize
-    ensures { λ r. ⌜ r ≡ min a b ⌝ }
-{
-    if a <= b {
-        return a;
-    }
-    b
 }
 
 // The starting ids of a unit into the front of `out`, as far as it goes.
