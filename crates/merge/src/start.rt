@@ -7,12 +7,10 @@ use model::compare::equal;
 use model::fallback::fallback_id;
 use model::mark::MARK;
 use model::tables::lesser;
-use utf8::chars::char_width;
+use utf8::chars::char_step;
 ghost use mathlib.Core.Path.{_≡_};
 ghost use mathlib.Core.Bool.{cond};
 ghost use mathlib.Core.List.{[]};
-ghost use Prim.Native.Nat.{max};
-ghost use Rattle.utf8.specs.Chars.{charWidth};
 ghost use Rattle.model.specs.Mark.{mark};
 ghost use Rattle.merge.specs.Start.{fallbackIds, lacksByte, asMark};
 ghost use Rattle.merge.specs.inner.Laid.{Laid, idOf, ownFound, laidIn, charLaid, markedChars, unitLaid, unitSymbols};
@@ -179,17 +177,6 @@ fn spell_mark(
         &MARK,
         out,
     )
-}
-
-// The width of the character at the head; a byte that begins none stands alone.
-fn char_step(text: &[u8]) -> usize
-    ensures { λ r. ⌜ r ≡ max 1 (charWidth (now (text .entry))) ⌝ }
-{
-    let w = char_width(text);
-    if w == 0 {
-        return 1;
-    }
-    w
 }
 
 // The starting ids of a unit into the front of `out`, as far as it goes.

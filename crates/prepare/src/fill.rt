@@ -78,7 +78,7 @@ fn mark_id(piece_bytes: &[u8], piece_offsets: &[u32], lookup: &[u32]) -> u32
 {
     match find_piece(piece_bytes, piece_offsets, lookup, &MARK) {
         Found::At(place) => number_at(lookup, place),
-        Found::Nothing => 4294967295,
+        Found::Nothing => model::fallback::NO_ID,
     }
 }
 

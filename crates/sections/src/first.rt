@@ -1,6 +1,7 @@
 // The bytes that contents of a token list begin with.
 use model::tables::string_at;
 use model::tables::string_count;
+use utf8::bytes::wide;
 ghost use mathlib.Core.Path.{_≡_};
 ghost use lib.ListN.{length, replicate};
 ghost use Rattle.model.specs.Model.{strings};
@@ -14,13 +15,6 @@ fn clear(begins: &mut [u32])
         begins[i] = 0;
         i += 1;
     }
-}
-
-// A byte as a place.
-fn wide(b: u8) -> usize
-    ensures { λ r. ⌜ r ≡ b ⌝ }
-{
-    b as usize
 }
 
 fn note_first(content: &[u8], begins: &mut [u32])
