@@ -1,5 +1,5 @@
 #!/usr/bin/env python3
-"""Times the model check on accepted models of growing size.
+"""Times the model check, and what is derived once, on accepted models of growing size.
 
     tools/check_speed.py LIBRARY
 
@@ -7,13 +7,13 @@ LIBRARY is the static library as a shared one; tools/library.py has the commands
 A model's pieces are the 256 bytes to fall back on and random words with all their parts, its rows all the ways to join
 two such parts to a third, up to a number. So each letter of one byte is there twice, as in models that people use. A line
 has the best of ten calls, and of ten on the same model with its longest piece twice too: then the check looks for every
-piece in the lookup list.
+piece in the lookup list. The last figure is what prepare takes beyond the check.
 """
 import ctypes
 import random
 import sys
 
-from library import NO_TOKENS, best_time, function, octets, words
+from library import NO_TOKENS, best_time, function, lent, octets, words
 
 # Pieces and rows wanted.
 SIZES = ((4000, 12500), (8000, 25000), (16000, 50000), (32000, 100000), (64000, 200000))
@@ -48,10 +48,13 @@ def columns(pieces, rows):
 
 def main():
     check = function(sys.argv[1], "varitmol_check")
+    prepare = function(sys.argv[1], "varitmol_prepare")
+    rows_of_words = lent(ctypes.c_uint64, [0] * 1024) + words([0] * 4423)
     for size in SIZES:
         pieces, rows = model(*size)
         usual, twice = (best_time(check, columns(p, rows), 10) / 1e6 for p in (pieces, pieces + [max(pieces, key=len)]))
-        print(f"{len(pieces)} pieces, {len(rows)} rows: {usual:.2f} ms; with a long piece twice {twice:.2f} ms")
+        derived = best_time(prepare, columns(pieces, rows) + rows_of_words, 10) / 1e6 - usual
+        print(f"{len(pieces)} pieces, {len(rows)} rows: {usual:.2f} ms; with a long piece twice {twice:.2f} ms; to prepare {derived:.2f} ms more")
 
 
 main()
