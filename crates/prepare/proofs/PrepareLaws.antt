@@ -1,13 +1,13 @@
 -- The outcome of prepare by the first test that applies, and what is derived by the tables that it is derived of.
 use mathlib.Core.Path.{_≡_, refl, sym, ap, _∙_}
-use mathlib.Core.Bool.{Bool, true, false, cond, _||_}
-use mathlib.Core.List.{List, [], _∷_, _++_}
-use Prim.Native.Nat.{ℕ, _+_, _*_, _-_, _≤_, _<_}
+use mathlib.Core.Bool.{Bool, true, false, _||_}
+use mathlib.Core.List.{List, [], _∷_}
+use Prim.Native.Nat.{ℕ, _*_, _-_, _≤_, _<_}
 use native.Mathlib.Omega.{arith}
 use borrow.Author.Tests.{ltb-false, lt-ltb, le-ltb, ne-eqb}
 use lib.Dec.{ltb, eqb}
 use lib.ListN.{length, take, length-append, length-replicate, length-map}
-use Rattle.utf8.specs.Lists.{isEmpty, any, joinMap}
+use Rattle.utf8.specs.Lists.{any, joinMap}
 use Rattle.utf8.proofs.Tests.{or-right}
 use Rattle.utf8.proofs.Places.{empty-by-length}
 use Rattle.utf8.proofs.Fronts.{length-row}
@@ -21,11 +21,10 @@ use Rattle.model.proofs.AnswerLaws.{lowest-later, lowest-first, tests-positive,
 use Rattle.model.proofs.StringLaws.{length-strings}
 use Rattle.model.proofs.CompleteLaws.{lookup-length}
 use Rattle.model.proofs.Accepted.{Accepted}
-use Rattle.units.specs.Kinds.{Crossing, crossings, isTangled, splits, wordSplit, kindOf, rawPath}
+use Rattle.units.specs.Kinds.{crossings, isTangled, splits, wordSplit, kindOf, rawPath}
 use Rattle.units.specs.Adjacency.{adjacency, adjacencyWord}
 use Rattle.units.specs.Derived.{Place, Noting, crossingPlaces, crossingOf, notedOf, placeWords, notedWords, noting, rawPathBy}
 use Rattle.units.specs.declared.WordSplit.{WordSplit}
-use Rattle.units.specs.declared.WordSplit.the-variants.{SpaceRuns, EveryMark, None}
 use Rattle.units.specs.declared.RawPath.{RawPath}
 use Rattle.units.proofs.NotingLaws.{crossings-by-place}
 use Rattle.prepare.specs.Layout.{indexRow}

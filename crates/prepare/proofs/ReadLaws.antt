@@ -3,8 +3,8 @@ use mathlib.Core.Path.{_≡_, refl, sym, ap, _∙_}
 use mathlib.Core.List.{List, _∷_, _++_, [], append-assoc, append-nil}
 use Prim.Native.Nat.{ℕ, _+_}
 use native.Mathlib.Omega.{arith}
-use lib.ListN.{length, getD, take, drop, length-append}
-use lib.Seq.{slice, take-append-add, take-append-seam, drop-append-seam, take-at, drop-at, getD-at}
+use lib.ListN.{length, getD, length-append}
+use lib.Seq.{slice, take-append-add, take-append-seam, drop-append-seam, getD-at}
 use Rattle.model.specs.Model.{Model, piecesOf}
 use Rattle.index.specs.Index.{firstBytes, markId, bucketShift, buckets}
 use Rattle.units.specs.Kinds.{kindOf, rawPath}
