@@ -1,3 +1,5 @@
 // Text to ids.
+mod marks;
+mod section;
 mod stretch;
 mod unit;
