@@ -89,11 +89,11 @@ module _ {whole rest : List Writer} {before out : List ℕ} {n : ℕ} (g : Going
       omega (arith, ap (λ (d : Merged). d .count) e, keeps .inside part, length-take (length out - n) (drop n out), g .within, g .long)
 
   -- One writer more, as a call leaves it that is lent the buffer from n on.
-  pub going-next : (w : Writer) (ws : List Writer) → rest ≡ w ∷ ws → Keeps w → {k : ℕ} {after : List ℕ}
+  pub going-on : (w : Writer) (ws : List Writer) → ((l : List ℕ) → inTurn rest l ≡ thenWrites (w l) (inTurn ws)) → Keeps w → {k : ℕ} {after : List ℕ}
       → _≡_ {A = Merged} (record { count = k; ids = after }) (w (take (length out - n) (drop n out)))
       → Going whole ws before (take n out ++ (after ++ drop (length out - n) (drop n out))) (n + k)
-  unfolding thenWrites inTurn
-  going-next w ws is keeps {k} {after} e =
+  unfolding thenWrites
+  going-on w ws is keeps {k} {after} e =
       let tail = drop n out in
       let none' : drop (length out - n) tail ≡ [] = drop-of-length-le tail {i = length out - n} (omega (arith, length-drop n out)) in
       let told : _≡_ {A = Merged} (record { count = k; ids = after }) (w tail) = e ∙ ap w (part-to-end out n) in
@@ -110,15 +110,45 @@ module _ {whole rest : List Writer} {before out : List ℕ} {n : ℕ} (g : Going
         long = omega (arith, length-append (take n out) after, taken, length-drop n out, g .long, g .within);
         same =
             g .same
-            ∙ rw (is, ← told)
+            ∙ rw (is tail, ← told)
             (rw (cut, left)
             (let more = inTurn ws (drop k after) in
             ap₂ {C = Merged} (λ (c : ℕ) (l : List ℕ). record { count = c; ids = l }) (let z : n + (k + more .count) ≡ n + k + more .count = omega arith in z) (sym (append-assoc (take n out) (take k after) (more .ids)))));
       })
 
+  pub going-next : (w : Writer) (ws : List Writer) → rest ≡ w ∷ ws → Keeps w → {k : ℕ} {after : List ℕ}
+      → _≡_ {A = Merged} (record { count = k; ids = after }) (w (take (length out - n) (drop n out)))
+      → Going whole ws before (take n out ++ (after ++ drop (length out - n) (drop n out))) (n + k)
+  unfolding inTurn
+  going-next w ws is = going-on w ws (λ l. ap (λ (r : List Writer). inTurn r l) is)
+
 pub going-ended : {whole : List Writer} {before out : List ℕ} {n : ℕ} → Going whole [] before out n → _≡_ {A = Merged} (record { count = n; ids = out }) (inTurn whole before)
 unfolding thenWrites inTurn
 going-ended {out = out} {n = n} g = sym (g .same ∙ rw (add-zero n, take-append-drop n out))
+
+-- Writers in turn, and then others.
+module _ {A : Type 0} (write : A → Writer) (keeps : (x : A) → Keeps (write x)) where
+  pub turn-append : (xs : List A) (ws : List Writer) (out : List ℕ) → inTurn (map write xs ++ ws) out ≡ thenWrites (inTurn (map write xs) out) (inTurn ws)
+  unfolding inTurn thenWrites
+  turn-append [] ws out = ap {B = Merged} (λ (n : ℕ). record { count = n; ids = inTurn ws out .ids }) (sym (zero-add (inTurn ws out .count)))
+  turn-append (x ∷ xs) ws out =
+      let one = write x out in
+      let c = one .count in
+      let first = take c (one .ids) in
+      let taken : length first ≡ c = length-take-le c (one .ids) (omega (arith, keeps x .long out, keeps x .inside out)) in
+      let next = inTurn (map write xs) (drop c (one .ids)) in
+      let k = next .count in
+      let cut : take (c + k) (first ++ next .ids) ≡ first ++ take k (next .ids) = ap (λ (m : ℕ). take (m + k) (first ++ next .ids)) (sym taken) ∙ take-append-add first (next .ids) k in
+      let left : drop (c + k) (first ++ next .ids) ≡ drop k (next .ids) = ap (λ (m : ℕ). drop (m + k) (first ++ next .ids)) (sym taken) ∙ drop-append-add first (next .ids) k in
+      ap (λ (d : Merged). thenWrites one (λ (l : List ℕ). d)) (turn-append xs ws (drop c (one .ids)))
+      ∙ rw (cut, left)
+      (let more = inTurn ws (drop k (next .ids)) in
+      ap₂ {C = Merged} (λ (n : ℕ) (l : List ℕ). record { count = n; ids = l }) (let z : c + (k + more .count) ≡ c + k + more .count = omega arith in z) (sym (append-assoc first (take k (next .ids)) (more .ids))))
+
+-- A single writer.
+pub turn-one : (w : Writer) (out : List ℕ) → inTurn (w ∷ []) out ≡ w out
+unfolding inTurn thenWrites
+turn-one w out = let one = w out in rw (add-zero (one .count), take-append-drop (one .count) (one .ids))
 
 -- ---- where there is room
 
@@ -146,6 +176,15 @@ fits-merging row starts = record {
         let all : min (length starts) (length out) ≡ length starts = omega arith in
         rw (all, laid-fits starts out h) (take-at starts (drop (length starts) out) (length starts) refl)
 
+-- What holds of each element of a list.
+pub data Each {A : Type 0} (P : A → Type 0) : List A → Type 0 where
+  none-left : Each P []
+  one-more : {x : A} {xs : List A} → P x → Each P xs → Each P (x ∷ xs)
+
+pub each : {A : Type 0} {P : A → Type 0} → ((x : A) → P x) → (xs : List A) → Each P xs
+each all [] = none-left
+each all (x ∷ xs) = one-more (all x) (each all xs)
+
 module _ {A : Type 0} (write : A → Writer) where
   pub keeps-all : ((x : A) → Keeps (write x)) → (xs : List A) → Keeps (inTurn (map write xs))
   unfolding inTurn thenWrites
@@ -163,12 +202,11 @@ module _ {A : Type 0} (write : A → Writer) where
       }
 
   -- Writers in turn have room if there is room for all that they need.
-  pub fits-all : (ids : A → List ℕ) (need : A → ℕ) → ((x : A) → Keeps (write x)) → ((x : A) → Fits (write x) (ids x) (need x)) → (xs : List A) → Fits (inTurn (map write xs)) (joinMap ids xs) (sum (map need xs))
+  pub fits-all : (ids : A → List ℕ) (need : A → ℕ) → ((x : A) → Keeps (write x)) → (xs : List A) → Each (λ (x : A). Fits (write x) (ids x) (need x)) xs → Fits (inTurn (map write xs)) (joinMap ids xs) (sum (map need xs))
   unfolding inTurn thenWrites
-  fits-all ids need keeps fits [] = record { few = omega arith; count = λ out h. refl; front = λ out h. refl }
-  fits-all ids need keeps fits (x ∷ xs) =
-      let f = fits x in
-      let rest = fits-all ids need keeps fits xs in
+  fits-all ids need keeps [] none-left = record { few = omega arith; count = λ out h. refl; front = λ out h. refl }
+  fits-all ids need keeps (x ∷ xs) (one-more f fits) =
+      let rest = fits-all ids need keeps xs fits in
       let a = ids x in
       let b = joinMap ids xs in
       record {

@@ -1,3 +1,6 @@
 // Text to ids.
+mod marks;
+mod raw;
+mod section;
 mod stretch;
 mod unit;

@@ -1,15 +1,22 @@
 // A stretch of bytes: its units one after the other.
 use crate::unit::encode_unit;
+use model::tables::number_at;
+use model::tables::wide;
+use prepare::numbers::kind_from;
 use units::WordSplit;
 use units::cut::next_unit;
 ghost use mathlib.Core.Path.{_≡_};
+ghost use Prim.Native.Nat.{_≤_};
+ghost use lib.ListN.{length};
 ghost use Rattle.model.specs.Model.{strings};
 ghost use Rattle.units.specs.Units.{cutBy};
 ghost use Rattle.units.specs.Adjacency.{pairNoted};
 ghost use Rattle.units.specs.Derived.{namedCrossings};
 ghost use Rattle.merge.specs.inner.Laid.{ownFound};
 ghost use Rattle.merge.specs.inner.Turns.{rowIn, Merged};
+ghost use Rattle.prepare.specs.Layout.{indexLength};
 ghost use Rattle.encode.specs.inner.Writers.{stretchWriter};
+ghost use Rattle.encode.specs.inner.Tables.{stretchIn};
 
 // The ids of a stretch into the front of `out`, each unit's behind those of the last. Answers how many there are.
 pub fn encode_units(
@@ -76,4 +83,55 @@ pub fn encode_units(
         mark = false;
         from = next;
     }
+}
+
+// The same by the two derived rows.
+pub fn encode_stretch(
+    adjacency: &[u64],
+    index: &[u32],
+    piece_bytes: &[u8],
+    piece_offsets: &[u32],
+    lookup: &[u32],
+    fallback: &[u32],
+    left: &[u32],
+    right: &[u32],
+    result: &[u32],
+    rank: &[u32],
+    section: &[u8],
+    raw: bool,
+    virtual_mark: bool,
+    out: &mut [u32],
+) -> usize
+    requires { ⌜ indexLength ≤ length (now index) ⌝ }
+    ensures { λ n. ⌜ _≡_ {A = Merged} (record { count = n; ids = now (out .exit) }) (stretchIn (record { adjacency = now (adjacency .entry); index = now (index .entry); pieceBytes = now («piece_bytes» .entry); pieceOffsets = now («piece_offsets» .entry); lookup = now (lookup .entry); fallback = now (fallback .entry); left = now (left .entry); right = now (right .entry); result = now (result .entry); rank = now (rank .entry) }) «virtual_mark» raw (now (section .entry)) (now (out .entry))) ⌝ }
+{
+    let kind = kind_from(number_at(index, prepare::KIND_AT));
+    let count = wide(number_at(index, prepare::CROSSING_COUNT_AT));
+    let mark_id = number_at(index, prepare::MARK_ID_AT);
+    let shift = number_at(index, prepare::SHIFT_AT);
+    let noted = &index[prepare::CROSSINGS_AT..prepare::MARK_ID_AT];
+    let first_bytes = &index[prepare::FIRST_BYTES_AT..prepare::BUCKETS_AT];
+    let buckets = &index[prepare::BUCKETS_AT..prepare::INDEX_LEN];
+    encode_units(
+        kind,
+        noted,
+        count,
+        adjacency,
+        piece_bytes,
+        piece_offsets,
+        lookup,
+        fallback,
+        first_bytes,
+        mark_id,
+        left,
+        right,
+        result,
+        rank,
+        buckets,
+        shift,
+        section,
+        raw,
+        virtual_mark,
+        out,
+    )
 }

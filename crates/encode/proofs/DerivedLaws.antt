@@ -1,0 +1,229 @@
+-- What the passes find by the rows that are derived of an accepted model is what the model says. Assumes nothing.
+use Prim.Native.Nat.{ℕ, _+_, _-_, _≤_, _<_, min}
+use native.Mathlib.Omega.{arith}
+use mathlib.Core.Path.{_≡_, refl, sym, ap, ap₂, _∙_, subst}
+use mathlib.Core.Bool.{Bool, true, false, cond}
+use mathlib.Core.Logic.{⊎-elim}
+use mathlib.Core.Option.{Option}
+use mathlib.Core.List.{List, [], _∷_, _++_, map}
+use borrow.Author.Tests.{ltb-true, ltb-false}
+use lib.Dec.{ltb}
+use lib.ListN.{length, getD, take, drop, length-take, List·getD-eq-default}
+use lib.Seq.{slice, take-at, drop-at, take-all, drop-append-add, getD-append-add, getD-take, getD-drop}
+use Rattle.utf8.specs.Lists.{isEmpty, joinMap, sum}
+use Rattle.utf8.proofs.Tests.{either}
+use Rattle.model.specs.Model.{Model, Row, piecesOf}
+use Rattle.model.specs.Check.{checkNumber}
+use Rattle.model.proofs.Accepted.{Accepted, accepted}
+use Rattle.index.specs.Index.{firstBytes, markId, bucketShift, buckets}
+use Rattle.units.specs.Kinds.{kindOf, rawPath}
+use Rattle.units.specs.Units.{cutBy}
+use Rattle.units.specs.Adjacency.{pairNoted}
+use Rattle.units.specs.Derived.{noting, namedCrossings}
+use Rattle.units.specs.declared.WordSplit.{WordSplit}
+use Rattle.units.specs.declared.WordSplit.the-variants.{SpaceRuns, EveryMark, None}
+use Rattle.units.specs.declared.RawPrepend.{RawPrepend}
+use Rattle.units.proofs.AdjacencyLaws.{Small}
+use Rattle.merge.specs.Start.{startingIdsBy}
+use Rattle.merge.specs.inner.Laid.{laid, ownFound, markedChars, unitSymbols}
+use Rattle.merge.specs.inner.Turns.{rowIn}
+use Rattle.merge.specs.declared.Symbols.{Symbols}
+use Rattle.merge.proofs.Laying.{laid-fits}
+use Rattle.merge.proofs.ModelLaws.{ownBy, rowBy}
+use Rattle.prepare.specs.Layout.{indexRow}
+use Rattle.prepare.specs.Numbers.{kindNumber, kindFrom, rawPathNumber}
+use Rattle.prepare.specs.Prepare.{derivedAdjacency, derivedIndex}
+use Rattle.prepare.proofs.LayoutLaws.{length-firstBytes, length-buckets}
+use Rattle.prepare.proofs.PrepareLaws.{noted-long}
+use Rattle.sections.specs.Sections.{Item, token, plain, takenApart, Section, bytesOf}
+use Rattle.encode.specs.Parts.{Stretch, virtualMark, stretch, rawStretch}
+use Rattle.encode.specs.Encode.{idsOf, startsOf, dropsOf}
+use Rattle.encode.specs.inner.Writers.{Writer, stretchWriter}
+use Rattle.encode.specs.inner.Tables.{Tables, words, ownIn, rowsIn, cutsIn, stretchIn}
+use Rattle.encode.specs.inner.Passes.{partStarts, partDrops, partsSymbols, idWriter, partWriter, partsWriter}
+use Rattle.encode.proofs.WriterLaws.{Each, none-left, one-more, Fits, fits-all}
+use Rattle.encode.proofs.PassLaws.{keeps-part}
+use Rattle.encode.proofs.ModelLaws.{cutsBy, stretch-counted, stretch-fits}
+
+-- ---- the parts of the index
+
+module _ (kind path count : ℕ) (noted : List ℕ) (long : length noted ≡ 64) (pieces : List (List ℕ)) (lookup left : List ℕ) where
+  abbrev row : List ℕ
+  row = indexRow kind path count noted pieces lookup left
+
+  abbrev shift : ℕ
+  shift = bucketShift (length pieces)
+
+  abbrev behind : List ℕ
+  behind = markId pieces lookup ∷ shift ∷ firstBytes pieces lookup ++ buckets left shift
+
+  kind-at : getD row 0 0 ≡ kind
+  unfolding indexRow
+  kind-at = refl
+
+  count-at : getD row 2 0 ≡ count
+  unfolding indexRow
+  count-at = refl
+
+  noted-at : words 3 67 row ≡ noted
+  unfolding indexRow
+  noted-at = take-at noted behind 64 long
+
+  past : (n : ℕ) → drop (64 + n) (noted ++ behind) ≡ drop n behind
+  past n = ap (λ (m : ℕ). drop (m + n) (noted ++ behind)) (sym long) ∙ drop-append-add noted behind n
+
+  mark-at : getD row 67 0 ≡ markId pieces lookup
+  unfolding indexRow
+  mark-at = ap (λ (m : ℕ). getD (noted ++ behind) (m + 0) 0) (sym long) ∙ getD-append-add noted behind 0 0
+
+  shift-at : getD row 68 0 ≡ shift
+  unfolding indexRow
+  shift-at = ap (λ (m : ℕ). getD (noted ++ behind) (m + 1) 0) (sym long) ∙ getD-append-add noted behind 1 0
+
+  first-at : words 69 326 row ≡ firstBytes pieces lookup
+  unfolding indexRow
+  first-at = ap (take 257) (past 2) ∙ take-at (firstBytes pieces lookup) (buckets left shift) 257 (length-firstBytes pieces lookup)
+
+  buckets-at : words 326 4423 row ≡ buckets left shift
+  unfolding indexRow
+  buckets-at =
+      ap (take 4097) (past 259 ∙ drop-at (firstBytes pieces lookup) (buckets left shift) 257 (length-firstBytes pieces lookup))
+      ∙ take-all 4097 (buckets left shift) (omega (arith, length-buckets left shift))
+
+pub kind-again : (kind : WordSplit) → kindFrom (kindNumber kind) ≡ kind
+unfolding kindFrom kindNumber
+kind-again SpaceRuns = refl
+kind-again EveryMark = refl
+kind-again None = refl
+
+-- ---- by the model
+
+-- What a prepared call is lent.
+abbrev pub tablesOf : Model → Tables
+tablesOf m = record {
+  adjacency = derivedAdjacency m;
+  index = derivedIndex m;
+  pieceBytes = m .pieceBytes;
+  pieceOffsets = m .pieceOffsets;
+  lookup = m .lookup;
+  fallback = m .fallback;
+  left = m .left;
+  right = m .right;
+  result = m .result;
+  rank = m .rank;
+}
+
+-- ---- parts of bytes
+
+pub data OfBytes : Item Stretch → Type 0 where
+  token-fine : {id : ℕ} → OfBytes (token id)
+  bytes-fine : {s : Stretch} → Small (s .bytes) → OfBytes (plain s)
+
+each-map : {A : Type 0} {P Q : A → Type 0} → ((x : A) → P x → Q x) → {xs : List A} → Each P xs → Each Q xs
+each-map f none-left = none-left
+each-map f (one-more p ps) = one-more (f _ p) (each-map f ps)
+
+each-append : {A : Type 0} {P : A → Type 0} {xs ys : List A} → Each P xs → Each P ys → Each P (xs ++ ys)
+each-append none-left qs = qs
+each-append (one-more p ps) qs = one-more p (each-append ps qs)
+
+sum-alike : {A : Type 0} (f g : A → ℕ) {xs : List A} → Each (λ (x : A). f x ≡ g x) xs → sum (map f xs) ≡ sum (map g xs)
+sum-alike f g none-left = refl
+sum-alike f g (one-more e es) = omega (arith, e, sum-alike f g es)
+
+small-part : (a b : ℕ) (l : List ℕ) → Small l → Small (slice a b l)
+small-part a b l small i =
+    rw (getD-drop a (take b l) i 0)
+    (⊎-elim (λ t. rw (getD-take b l (a + i) 0 (ltb-true (a + i) b t)) (small (a + i)))
+    (λ t. rw (List·getD-eq-default (take b l) 0 {n = a + i} (omega (arith, ltb-false (a + i) b t, length-take b l))) (omega arith))
+    (either (ltb (a + i) b)))
+
+-- The sections of a text of bytes are of bytes.
+pub raw-bytes : (prepend : RawPrepend) (continuation : Bool) (text : List ℕ) → Small text → (items : List (Item Section)) → Each OfBytes (takenApart (rawStretch prepend continuation text) items)
+unfolding rawStretch bytesOf stretch
+raw-bytes prepend continuation text small [] = none-left
+raw-bytes prepend continuation text small (token id ∷ items) = one-more token-fine (raw-bytes prepend continuation text small items)
+raw-bytes prepend continuation text small (plain section ∷ items) = each-append (go (isEmpty (slice (section .start) (section .stop) text))) (raw-bytes prepend continuation text small items)
+  where
+    go : (b : Bool) → Each OfBytes (cond b [] (plain (record { bytes = slice (section .start) (section .stop) text; virtual = virtualMark prepend continuation (section .opening) (slice (section .start) (section .stop) text); raw = true }) ∷ []))
+    go true = none-left
+    go false = one-more (bytes-fine (small-part (section .start) (section .stop) text small)) none-left
+
+fits-id : (id : ℕ) → Fits (idWriter id) (id ∷ []) 1
+unfolding idWriter
+fits-id id = record {
+  few = omega arith;
+  count = λ out h. omega arith;
+  front = λ out h. rw (laid-fits (id ∷ []) out h);
+}
+
+module _ (m : Model) (fine : checkNumber m ≡ 0) where
+  abbrev ok : Accepted m
+  ok = accepted m fine
+
+  noted : List ℕ
+  noted = noting (piecesOf m) (kindOf m) .noted
+
+  long : length noted ≡ 64
+  unfolding noted kindOf
+  long = noted-long (piecesOf m) (m .metaspace)
+
+  pub own-derived : ownIn (derivedIndex m) (m .pieceBytes) (m .pieceOffsets) (m .lookup) ≡ ownBy m ok
+  unfolding ownIn derivedIndex noted
+  own-derived =
+      let k = kindNumber (kindOf m) in
+      let p = rawPathNumber (rawPath m) in
+      let c = noting (piecesOf m) (kindOf m) .count in
+      ap₂ (ownFound (m .pieceBytes) (m .pieceOffsets) (m .lookup)) (first-at k p c noted long (piecesOf m) (m .lookup) (m .left)) (mark-at k p c noted long (piecesOf m) (m .lookup) (m .left))
+
+  pub rows-derived : rowsIn (tablesOf m) ≡ rowBy m ok
+  unfolding rowsIn derivedIndex noted
+  rows-derived =
+      let k = kindNumber (kindOf m) in
+      let p = rawPathNumber (rawPath m) in
+      let c = noting (piecesOf m) (kindOf m) .count in
+      ap₂ (rowIn (m .left) (m .right) (m .result) (m .rank)) (buckets-at k p c noted long (piecesOf m) (m .lookup) (m .left)) (shift-at k p c noted long (piecesOf m) (m .lookup) (m .left))
+
+  pub cuts-derived : (raw : Bool) (bytes : List ℕ) → cutsIn (tablesOf m) raw bytes ≡ cutsBy m fine raw bytes
+  unfolding cutsIn derivedIndex derivedAdjacency noted piecesOf indexRow kindNumber noting
+  cuts-derived raw bytes =
+      let k = kindNumber (kindOf m) in
+      let p = rawPathNumber (rawPath m) in
+      let c = noting (piecesOf m) (kindOf m) .count in
+      ap₂ (λ (kind : WordSplit) (named : List ℕ). cutBy kind (namedCrossings (piecesOf m) named c) (pairNoted (derivedAdjacency m)) raw bytes) (kind-again (kindOf m)) (noted-at k p c noted long (piecesOf m) (m .lookup) (m .left))
+
+  starts-meant : {part : Item Stretch} → OfBytes part → partStarts (ownBy m ok) (m .fallback) part ≡ startsOf m part
+  unfolding partStarts startsOf unitSymbols
+  starts-meant token-fine = refl
+  starts-meant (bytes-fine {s} small) =
+      let a = length (joinMap (startingIdsBy (ownBy m ok) (m .fallback)) (markedChars (s .virtual) (s .raw) (s .bytes))) in
+      let b = startsOf m (plain s) in
+      let e : min a (a + b) ≡ min b (a + b) = ap (λ (x : Symbols). x .count) (stretch-counted m s ok small (a + b)) in
+      omega arith
+
+  drops-meant : {part : Item Stretch} → OfBytes part → partDrops (ownBy m ok) (m .fallback) part ≡ dropsOf m part
+  unfolding partDrops dropsOf unitSymbols
+  drops-meant token-fine = refl
+  drops-meant (bytes-fine {s} small) = ap (λ (x : Symbols). x .drops) (stretch-counted m s ok small 0)
+
+  part-fits : {part : Item Stretch} → OfBytes part → Fits (partWriter (tablesOf m) part) (idsOf m part) (startsOf m part)
+  unfolding partWriter idsOf startsOf stretchIn
+  part-fits (token-fine {id}) = fits-id id
+  part-fits (bytes-fine {s} small) =
+      subst (λ (w : Writer). Fits w (idsOf m (plain s)) (startsOf m (plain s)))
+      (sym (ap₂ (λ (row : ℕ → ℕ → Option Row) (own : List ℕ → Option ℕ). stretchWriter row own (m .fallback) (cutsIn (tablesOf m) (s .raw) (s .bytes)) (s .virtual) (s .raw) (s .bytes)) rows-derived own-derived
+      ∙ ap (λ (cuts : ℕ → Bool). stretchWriter (rowBy m ok) (ownBy m ok) (m .fallback) cuts (s .virtual) (s .raw) (s .bytes)) (cuts-derived (s .raw) (s .bytes))))
+      (stretch-fits m fine s small)
+
+  -- The first pass counts what the definitions count,
+  pub parts-counted : (parts : List (Item Stretch)) → Each OfBytes parts → (room : ℕ)
+      → _≡_ {A = Symbols} (partsSymbols (ownIn (derivedIndex m) (m .pieceBytes) (m .pieceOffsets) (m .lookup)) (m .fallback) parts room) (record { count = min (sum (map (startsOf m) parts)) room; drops = sum (map (dropsOf m) parts) })
+  unfolding partsSymbols
+  parts-counted parts small room =
+      rw own-derived
+      (rw (sum-alike (partStarts (ownBy m ok) (m .fallback)) (startsOf m) (each-map (λ part fine. starts-meant fine) small), sum-alike (partDrops (ownBy m ok) (m .fallback)) (dropsOf m) (each-map (λ part fine. drops-meant fine) small)))
+
+  -- and the second writes their ids where there is room for that many.
+  pub parts-written : (parts : List (Item Stretch)) → Each OfBytes parts → Fits (partsWriter (tablesOf m) parts) (joinMap (idsOf m) parts) (sum (map (startsOf m) parts))
+  unfolding partsWriter
+  parts-written parts small = fits-all (partWriter (tablesOf m)) (idsOf m) (startsOf m) (keeps-part (tablesOf m)) parts (each-map (λ part fine. part-fits fine) small)

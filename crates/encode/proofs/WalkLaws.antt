@@ -1,0 +1,66 @@
+-- A walk through a text's sections, as the parts that are still to come. Assumes nothing.
+use Prim.Native.Nat.{ℕ, _+_, _*_, _-_, _<_, _≤_}
+use native.Mathlib.Omega.{arith}
+use mathlib.Core.Path.{_≡_, refl, sym, ap, _∙_}
+use mathlib.Core.Bool.{Bool, true, false, cond}
+use mathlib.Core.List.{List, [], _∷_, _++_}
+use lib.Dec.{eqb}
+use lib.ListN.{length, length-take, length-drop, take}
+use lib.Seq.{slice}
+use Rattle.model.specs.Model.{TokenList, contents}
+use Rattle.model.specs.Check.{badToken}
+use Rattle.sections.specs.Sections.{Item, token, plain, takenApart, Section, sections}
+use Rattle.sections.specs.inner.Seek.{firstBytes}
+use Rattle.sections.specs.inner.Walk.{nextItem, sectionsStart}
+use Rattle.sections.specs.declared.Cursor.{Cursor}
+use Rattle.sections.specs.declared.Cursor.the-variants.{Whole, Seek}
+use Rattle.sections.specs.declared.Next.{Next}
+use Rattle.sections.specs.declared.Next.the-variants.{Plain, Added, Finished}
+use Rattle.sections.proofs.SeekLaws.{Sound, first-sound}
+use Rattle.sections.proofs.SectionLaws.{sectionsLeft, sectionsGiven, sections-start, sections-step}
+use Rattle.sections.proofs.StepLaws.{stepsLeft, stepsGiven, fewer-steps}
+use Rattle.encode.specs.Parts.{Stretch}
+
+module _ (f : Section → List (Item Stretch)) (t : TokenList) (text : List ℕ) where
+  -- The parts from a cursor on.
+  pub partsLeft : Cursor → List (Item Stretch)
+  partsLeft cursor = takenApart f (sectionsLeft t text cursor)
+
+  pub parts-start : partsLeft (sectionsStart (t .offsets) text) ≡ takenApart f (sections t text)
+  unfolding partsLeft
+  parts-start = ap (takenApart f) (sections-start t text)
+
+  module _ (first : List ℕ) (sound : first ≡ firstBytes (contents t) (length first)) (fine : badToken (contents t) ≡ false) (cursor : Cursor) {item : Next} (is : item ≡ nextItem t first false text cursor) where
+    here : sectionsLeft t text cursor ≡ sectionsGiven t text item
+    here = sections-step t first (rw sound (first-sound (contents t) (length first))) fine text cursor ∙ ap (sectionsGiven t text) (sym is)
+
+    pub plain-next : {start stop : ℕ} {opening : Bool} {next : Cursor} → item ≡ Plain start stop opening next → partsLeft cursor ≡ f (record { start = start; stop = stop; opening = opening }) ++ partsLeft next
+    unfolding partsLeft
+    plain-next e = ap (takenApart f) (here ∙ ap (sectionsGiven t text) e)
+
+    pub token-next : {id : ℕ} {next : Cursor} → item ≡ Added id next → partsLeft cursor ≡ token id ∷ partsLeft next
+    unfolding partsLeft
+    token-next e = ap (takenApart f) (here ∙ ap (sectionsGiven t text) e)
+
+    pub finished : item ≡ Finished → partsLeft cursor ≡ []
+    unfolding partsLeft
+    finished e = ap (takenApart f) (here ∙ ap (sectionsGiven t text) e)
+
+module _ (t : TokenList) (first text : List ℕ) (cursor : Cursor) {item : Next} (is : item ≡ nextItem t first false text cursor) where
+  pub plain-fewer : {start stop : ℕ} {opening : Bool} {next : Cursor} → item ≡ Plain start stop opening next → stepsLeft next < stepsLeft cursor
+  plain-fewer e = omega (arith, fewer-steps t first false text cursor, ap stepsGiven (sym is), ap stepsGiven e)
+
+  pub token-fewer : {id : ℕ} {next : Cursor} → item ≡ Added id next → stepsLeft next < stepsLeft cursor
+  token-fewer e = omega (arith, fewer-steps t first false text cursor, ap stepsGiven (sym is), ap stepsGiven e)
+
+-- A text has no more parts than this.
+pub steps-start : (offsets text : List ℕ) → stepsLeft (sectionsStart offsets text) ≤ 2 * length text + 1
+unfolding sectionsStart
+steps-start offsets text = go (eqb (length offsets - 1) 0)
+  where
+    go : (b : Bool) → stepsLeft (cond b Whole (Seek 0 0 (length text) true)) ≤ 2 * length text + 1
+    go true = omega arith
+    go false = omega arith
+
+pub section-long : (a b : ℕ) (text : List ℕ) → length (slice a b text) ≤ length text
+section-long a b text = omega (arith, length-drop a (take b text), length-take b text)

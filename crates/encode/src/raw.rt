@@ -1,0 +1,184 @@
+// The two passes on the raw path, where the sections of a text are its stretches.
+use crate::section::count_section;
+use crate::section::encode_section;
+use crate::section::put_id;
+use merge::Symbols;
+use model::tables::part;
+use sections::Next;
+use sections::walk::next_item;
+use sections::walk::sections_start;
+use units::RawPrepend;
+ghost use mathlib.Core.Path.{_≡_};
+ghost use mathlib.Core.Bool.{false};
+ghost use Prim.Native.Nat.{_≤_};
+ghost use lib.ListN.{length};
+ghost use Rattle.model.specs.Check.{badToken};
+ghost use Rattle.model.specs.Model.{contents, tokenList};
+ghost use Rattle.merge.specs.inner.Turns.{Merged};
+ghost use Rattle.prepare.specs.Layout.{indexLength};
+ghost use Rattle.sections.specs.Sections.{takenApart, sections};
+ghost use Rattle.sections.specs.inner.Seek.{firstBytes};
+ghost use Rattle.encode.specs.Parts.{rawStretch};
+ghost use Rattle.encode.specs.inner.Tables.{ownIn};
+ghost use Rattle.encode.specs.inner.Passes.{partsSymbols, partsWriter};
+
+// The starting ids of all sections and one for each token, counted up to `room`, and all drops.
+pub fn count_raw(
+    index: &[u32],
+    piece_bytes: &[u8],
+    piece_offsets: &[u32],
+    lookup: &[u32],
+    fallback: &[u32],
+    bytes: &[u8],
+    offsets: &[u32],
+    ids: &[u32],
+    lstrip: &[bool],
+    rstrip: &[bool],
+    first: &[u32],
+    prepend: RawPrepend,
+    continuation: bool,
+    text: &[u8],
+    room: usize,
+) -> Symbols
+    requires { ⌜ indexLength ≤ length (now index) ⌝ }
+    requires { ⌜ now first ≡ firstBytes (contents (tokenList (now bytes) (now offsets) (now ids) (now lstrip) (now rstrip))) (length (now first)) ⌝ }
+    requires { ⌜ badToken (contents (tokenList (now bytes) (now offsets) (now ids) (now lstrip) (now rstrip))) ≡ false ⌝ }
+    requires { ⌜ length (now text) ≤ 1048576 ⌝ }
+    ensures { λ r. ⌜ r ≡ partsSymbols (ownIn (now (index .entry)) (now («piece_bytes» .entry)) (now («piece_offsets» .entry)) (now (lookup .entry))) (now (fallback .entry)) (takenApart (rawStretch prepend continuation (now (text .entry))) (sections (tokenList (now (bytes .entry)) (now (offsets .entry)) (now (ids .entry)) (now (lstrip .entry)) (now (rstrip .entry))) (now (text .entry)))) room ⌝ }
+{
+    let mut cursor = sections_start(offsets, text);
+    let mut count = 0;
+    let mut drops = 0;
+    loop {
+        match next_item(
+            bytes,
+            offsets,
+            ids,
+            lstrip,
+            rstrip,
+            first,
+            false,
+            text,
+            cursor,
+        ) {
+            Next::Finished => {
+                return Symbols {
+                    count: count,
+                    drops: drops,
+                };
+            }
+            Next::Added { id: _, next } => {
+                if count < room {
+                    count += 1;
+                    cursor = next;
+                } else {
+                    cursor = next;
+                }
+            }
+            Next::Plain {
+                start,
+                stop,
+                opening,
+                next,
+            } => {
+                let section = part(text, start, stop);
+                let given = count_section(
+                    index,
+                    piece_bytes,
+                    piece_offsets,
+                    lookup,
+                    fallback,
+                    prepend,
+                    continuation,
+                    opening,
+                    section,
+                    room - count,
+                );
+                count += given.count;
+                drops += given.drops;
+                cursor = next;
+            }
+        }
+    }
+}
+
+// The ids of all sections and tokens into the front of `out`. Answers how many there are.
+pub fn write_raw(
+    adjacency: &[u64],
+    index: &[u32],
+    piece_bytes: &[u8],
+    piece_offsets: &[u32],
+    lookup: &[u32],
+    fallback: &[u32],
+    left: &[u32],
+    right: &[u32],
+    result: &[u32],
+    rank: &[u32],
+    bytes: &[u8],
+    offsets: &[u32],
+    ids: &[u32],
+    lstrip: &[bool],
+    rstrip: &[bool],
+    first: &[u32],
+    prepend: RawPrepend,
+    continuation: bool,
+    text: &[u8],
+    out: &mut [u32],
+) -> usize
+    requires { ⌜ indexLength ≤ length (now index) ⌝ }
+    requires { ⌜ now first ≡ firstBytes (contents (tokenList (now bytes) (now offsets) (now ids) (now lstrip) (now rstrip))) (length (now first)) ⌝ }
+    requires { ⌜ badToken (contents (tokenList (now bytes) (now offsets) (now ids) (now lstrip) (now rstrip))) ≡ false ⌝ }
+    ensures { λ n. ⌜ _≡_ {A = Merged} (record { count = n; ids = now (out .exit) }) (partsWriter (record { adjacency = now (adjacency .entry); index = now (index .entry); pieceBytes = now («piece_bytes» .entry); pieceOffsets = now («piece_offsets» .entry); lookup = now (lookup .entry); fallback = now (fallback .entry); left = now (left .entry); right = now (right .entry); result = now (result .entry); rank = now (rank .entry) }) (takenApart (rawStretch prepend continuation (now (text .entry))) (sections (tokenList (now (bytes .entry)) (now (offsets .entry)) (now (ids .entry)) (now (lstrip .entry)) (now (rstrip .entry))) (now (text .entry)))) (now (out .entry))) ⌝ }
+{
+    let mut cursor = sections_start(offsets, text);
+    let mut written = 0;
+    loop {
+        match next_item(
+            bytes,
+            offsets,
+            ids,
+            lstrip,
+            rstrip,
+            first,
+            false,
+            text,
+            cursor,
+        ) {
+            Next::Finished => {
+                return written;
+            }
+            Next::Added { id, next } => {
+                let more = put_id(id, &mut out[written..]);
+                written += more;
+                cursor = next;
+            }
+            Next::Plain {
+                start,
+                stop,
+                opening,
+                next,
+            } => {
+                let section = part(text, start, stop);
+                let more = encode_section(
+                    adjacency,
+                    index,
+                    piece_bytes,
+                    piece_offsets,
+                    lookup,
+                    fallback,
+                    left,
+                    right,
+                    result,
+                    rank,
+                    prepend,
+                    continuation,
+                    opening,
+                    section,
+                    &mut out[written..],
+                );
+                written += more;
+                cursor = next;
+            }
+        }
+    }
+}

@@ -1,0 +1,106 @@
+// One section on the raw path.
+use crate::marks::virtual_mark;
+use crate::stretch::encode_stretch;
+use merge::Symbols;
+use merge::start::count_symbols;
+use model::tables::number_at;
+use units::RawPrepend;
+ghost use mathlib.Core.Path.{_≡_};
+ghost use mathlib.Core.Bool.{true};
+ghost use Prim.Native.Nat.{_≤_};
+ghost use lib.ListN.{length};
+ghost use Rattle.merge.specs.inner.Turns.{Merged};
+ghost use Rattle.prepare.specs.Layout.{indexLength};
+ghost use Rattle.encode.specs.Parts.{virtualMark, stretch};
+ghost use Rattle.encode.specs.inner.Tables.{ownIn};
+ghost use Rattle.encode.specs.inner.Passes.{partsSymbols, idWriter, partsWriter};
+
+// Its starting ids, counted up to `room`, and its drops.
+pub fn count_section(
+    index: &[u32],
+    piece_bytes: &[u8],
+    piece_offsets: &[u32],
+    lookup: &[u32],
+    fallback: &[u32],
+    prepend: RawPrepend,
+    continuation: bool,
+    opening: bool,
+    section: &[u8],
+    room: usize,
+) -> Symbols
+    requires { ⌜ indexLength ≤ length (now index) ⌝ }
+    ensures { λ r. ⌜ r ≡ partsSymbols (ownIn (now (index .entry)) (now («piece_bytes» .entry)) (now («piece_offsets» .entry)) (now (lookup .entry))) (now (fallback .entry)) (stretch (now (section .entry)) (virtualMark prepend continuation opening (now (section .entry))) true) room ⌝ }
+{
+    if section.len() == 0 {
+        return Symbols { count: 0, drops: 0 };
+    }
+    let mark = virtual_mark(prepend, continuation, opening, section);
+    let first_bytes = &index[prepare::FIRST_BYTES_AT..prepare::BUCKETS_AT];
+    let mark_id = number_at(index, prepare::MARK_ID_AT);
+    count_symbols(
+        piece_bytes,
+        piece_offsets,
+        lookup,
+        fallback,
+        first_bytes,
+        mark_id,
+        section,
+        true,
+        mark,
+        room,
+    )
+}
+
+// Its ids into the front of `out`. Answers how many there are.
+pub fn encode_section(
+    adjacency: &[u64],
+    index: &[u32],
+    piece_bytes: &[u8],
+    piece_offsets: &[u32],
+    lookup: &[u32],
+    fallback: &[u32],
+    left: &[u32],
+    right: &[u32],
+    result: &[u32],
+    rank: &[u32],
+    prepend: RawPrepend,
+    continuation: bool,
+    opening: bool,
+    section: &[u8],
+    out: &mut [u32],
+) -> usize
+    requires { ⌜ indexLength ≤ length (now index) ⌝ }
+    ensures { λ n. ⌜ _≡_ {A = Merged} (record { count = n; ids = now (out .exit) }) (partsWriter (record { adjacency = now (adjacency .entry); index = now (index .entry); pieceBytes = now («piece_bytes» .entry); pieceOffsets = now («piece_offsets» .entry); lookup = now (lookup .entry); fallback = now (fallback .entry); left = now (left .entry); right = now (right .entry); result = now (result .entry); rank = now (rank .entry) }) (stretch (now (section .entry)) (virtualMark prepend continuation opening (now (section .entry))) true) (now (out .entry))) ⌝ }
+{
+    if section.len() == 0 {
+        return 0;
+    }
+    let mark = virtual_mark(prepend, continuation, opening, section);
+    encode_stretch(
+        adjacency,
+        index,
+        piece_bytes,
+        piece_offsets,
+        lookup,
+        fallback,
+        left,
+        right,
+        result,
+        rank,
+        section,
+        true,
+        mark,
+        out,
+    )
+}
+
+// A token's id into the first cell, where there is one.
+pub fn put_id(id: u32, out: &mut [u32]) -> usize
+    ensures { λ n. ⌜ _≡_ {A = Merged} (record { count = n; ids = now (out .exit) }) (idWriter id (now (out .entry))) ⌝ }
+{
+    if out.len() == 0 {
+        return 0;
+    }
+    out[0] = id;
+    1
+}
