@@ -17,7 +17,8 @@ use Rattle.units.specs.declared.RawPath.the-variants.{Absent, Present}
 use Rattle.prepare.specs.Layout.{indexRow, kindAt, rawPathAt, crossingCountAt, crossingsAt, markIdAt, shiftAt, firstBytesAt, bucketsAt, indexLength}
 use Rattle.prepare.specs.Numbers.{kindNumber, kindFrom, rawPathNumber, rawPathFrom}
 use Rattle.prepare.specs.Prepare.{derivedIndex}
-use Rattle.prepare.proofs.LayoutLaws.{length-firstBytes, length-buckets}
+use Rattle.prepare.proofs.LayoutLaws.{length-firstBytes, length-buckets, length-index}
+use Rattle.prepare.proofs.PrepareLaws.{noted-long}
 
 -- A number gives back what it stands for.
 pub kind-back : (kind : WordSplit) → kindFrom (kindNumber kind) ≡ kind
@@ -102,3 +103,32 @@ module _ (m : Model) where
   pub count-read : getD (derivedIndex m) crossingCountAt 0 ≡ noting (piecesOf m) (kindOf m) .count
   unfolding derivedIndex indexRow
   count-read = refl
+
+  all-64 : length (noting (piecesOf m) (kindOf m) .noted) ≡ 64
+  unfolding kindOf
+  all-64 = noted-long (piecesOf m) (m .metaspace)
+
+  -- The other parts of its index.
+  pub crossings-at : slice crossingsAt markIdAt (derivedIndex m) ≡ noting (piecesOf m) (kindOf m) .noted
+  unfolding derivedIndex
+  crossings-at = noted-read (kindNumber (kindOf m)) (rawPathNumber (rawPath m)) (noting (piecesOf m) (kindOf m) .count) (noting (piecesOf m) (kindOf m) .noted) (piecesOf m) (m .lookup) (m .left) all-64
+
+  pub mark-at : getD (derivedIndex m) markIdAt 0 ≡ markId (piecesOf m) (m .lookup)
+  unfolding derivedIndex
+  mark-at = mark-read (kindNumber (kindOf m)) (rawPathNumber (rawPath m)) (noting (piecesOf m) (kindOf m) .count) (noting (piecesOf m) (kindOf m) .noted) (piecesOf m) (m .lookup) (m .left) all-64
+
+  pub shift-at : getD (derivedIndex m) shiftAt 0 ≡ bucketShift (length (piecesOf m))
+  unfolding derivedIndex
+  shift-at = shift-read (kindNumber (kindOf m)) (rawPathNumber (rawPath m)) (noting (piecesOf m) (kindOf m) .count) (noting (piecesOf m) (kindOf m) .noted) (piecesOf m) (m .lookup) (m .left) all-64
+
+  pub first-bytes-at : slice firstBytesAt bucketsAt (derivedIndex m) ≡ firstBytes (piecesOf m) (m .lookup)
+  unfolding derivedIndex
+  first-bytes-at = first-bytes-read (kindNumber (kindOf m)) (rawPathNumber (rawPath m)) (noting (piecesOf m) (kindOf m) .count) (noting (piecesOf m) (kindOf m) .noted) (piecesOf m) (m .lookup) (m .left) all-64
+
+  pub buckets-at : slice bucketsAt indexLength (derivedIndex m) ≡ buckets (m .left) (bucketShift (length (piecesOf m)))
+  unfolding derivedIndex
+  buckets-at = buckets-read (kindNumber (kindOf m)) (rawPathNumber (rawPath m)) (noting (piecesOf m) (kindOf m) .count) (noting (piecesOf m) (kindOf m) .noted) (piecesOf m) (m .lookup) (m .left) all-64
+
+  pub index-long : length (derivedIndex m) ≡ indexLength
+  unfolding derivedIndex
+  index-long = length-index (kindNumber (kindOf m)) (rawPathNumber (rawPath m)) (noting (piecesOf m) (kindOf m) .count) (noting (piecesOf m) (kindOf m) .noted) (piecesOf m) (m .lookup) (m .left) all-64

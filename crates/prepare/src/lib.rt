@@ -3,6 +3,7 @@
 mod derive;
 mod fill;
 pub mod numbers;
+pub mod read;
 mod rows;
 mod walk;
 
