@@ -45,12 +45,10 @@ fn check_and_tell(
 ) {
     let token_offsets = [0, (token.len() % 256) as u32];
     let ids = [50u32];
-    let lstrip = [false];
-    let rstrip = [false];
+    let flags = [false];
     let no_offsets = [0u32];
     let no_ids = [0u32; 0];
-    let no_lstrip = [false; 0];
-    let no_rstrip = [false; 0];
+    let no_flags = [false; 0];
     let steps = [step; 16];
     let answer = model::check(
         pieces,
@@ -64,13 +62,13 @@ fn check_and_tell(
         token,
         &token_offsets,
         &ids,
-        &lstrip,
-        &rstrip,
+        &flags,
+        &flags,
         b"",
         &no_offsets,
         &no_ids,
-        &no_lstrip,
-        &no_rstrip,
+        &no_flags,
+        &no_flags,
         b"\xC3\xA9",
         steps,
         1,

@@ -138,10 +138,10 @@ fn one_step(name: &[u8], step: Step, text: &[u8], out_room: usize, a_room: usize
     );
 }
 
-// The letter of two bytes in front of a text.
-fn prepend(name: &[u8], text: &[u8], out_room: usize, a_room: usize, b_room: usize) {
+// The letter of two bytes in front of `a`.
+fn prepend(name: &[u8], out_room: usize, a_room: usize, b_room: usize) {
     let content = Span { place: 0, len: 2 };
-    one_step(name, Step::Prepend(content), text, out_room, a_room, b_room);
+    one_step(name, Step::Prepend(content), b"a", out_room, a_room, b_room);
 }
 
 fn strip(name: &[u8], text: &[u8]) {
@@ -152,8 +152,8 @@ fn strip(name: &[u8], text: &[u8]) {
     one_step(name, step, text, ROOM, ROOM, ROOM);
 }
 
-// Each `a` becomes the letter of two bytes, and that letter nothing.
-fn longer_then_shorter(name: &[u8], text: &[u8], room: usize) {
+// In `aa` each `a` becomes the letter of two bytes, and that letter nothing.
+fn longer_then_shorter(name: &[u8], room: usize) {
     let letter = Span { place: 0, len: 2 };
     let a = Span { place: 2, len: 1 };
     let empty = Span { place: 0, len: 0 };
@@ -167,7 +167,7 @@ fn longer_then_shorter(name: &[u8], text: &[u8], room: usize) {
     };
     let mut steps = [longer; 16];
     steps[1] = shorter;
-    with_rooms(name, steps, 2, Metaspace::Absent, text, ROOM, room, room);
+    with_rooms(name, steps, 2, Metaspace::Absent, b"aa", ROOM, room, room);
 }
 
 fn metaspace(name: &[u8], text: &[u8], a_room: usize, b_room: usize) {
@@ -195,7 +195,14 @@ fn empty_text() {
         content: letter,
     };
     let collapse = Step::CollapseSpaces { content: letter };
-    prepend(b"Prepend on empty text", b"", ROOM, ROOM, ROOM);
+    one_step(
+        b"Prepend on empty text",
+        Step::Prepend(letter),
+        b"",
+        ROOM,
+        ROOM,
+        ROOM,
+    );
     one_step(b"Replace on empty text", replace, b"", ROOM, ROOM, ROOM);
     one_step(
         b"Replace of the empty pattern on empty text",
@@ -219,18 +226,18 @@ fn empty_text() {
 
 // An output of three bytes, one of four between two steps, and metaspace's of four.
 fn scratch_short_and_exact() {
-    prepend(b"Prepend, first scratch a byte short", b"a", ROOM, 2, 3);
-    prepend(b"Prepend, second scratch a byte short", b"a", ROOM, 3, 2);
-    prepend(b"Prepend, scratch exact", b"a", ROOM, 3, 3);
-    longer_then_shorter(b"Two steps, scratch a byte short", b"aa", 3);
-    longer_then_shorter(b"Two steps, scratch exact", b"aa", 4);
+    prepend(b"Prepend, first scratch a byte short", ROOM, 2, 3);
+    prepend(b"Prepend, second scratch a byte short", ROOM, 3, 2);
+    prepend(b"Prepend, scratch exact", ROOM, 3, 3);
+    longer_then_shorter(b"Two steps, scratch a byte short", 3);
+    longer_then_shorter(b"Two steps, scratch exact", 4);
     metaspace(b"Metaspace, scratch a byte short", b"a", 4, 3);
     metaspace(b"Metaspace, scratch exact", b"a", 4, 4);
 }
 
 fn result_short_and_exact() {
-    prepend(b"Prepend, result a byte short", b"a", 2, ROOM, ROOM);
-    prepend(b"Prepend, result exact", b"a", 3, ROOM, ROOM);
+    prepend(b"Prepend, result a byte short", 2, ROOM, ROOM);
+    prepend(b"Prepend, result exact", 3, ROOM, ROOM);
 }
 
 pub(crate) fn run() {

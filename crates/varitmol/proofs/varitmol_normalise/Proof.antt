@@ -4,6 +4,10 @@ use Rattle.varitmol.specs.Numbers.{answeredScratch}
 use Rattle.varitmol.proofs.varitmol_normalise.Statement.{statement}
 use Rattle.varitmol.proofs.varitmol_normalise.Tie as tie
 
+-- the way back to where the numbers were turned into steps and a metaspace
+abbrev turned : tie.After-slice-known6 → tie.After-metaspace-from
+turned a = a .before .before .before .before .before .before .before .before .before .before
+
 wrong-numbers-requires : tie.Need-wrong-numbers-requires
 wrong-numbers-requires c κs = search needs
 
@@ -35,7 +39,7 @@ same-length-3 c = search needs
 returns-2 : tie.Need-returns-2
 unfolding answeredScratch
 returns-2 c =
-    rw (← c .before .before .before .before .before .before .before .before .before .before .before .before .before .wrong-numbers .ensures, c .before .before .before .before .before .before .before .before .before .before .before .before .if1 .left, ← c .before .before .before .before .before .before .before .before .before .before .before .steps-from .ensures, ← c .before .before .before .before .before .before .before .before .before .before .metaspace-from .ensures) (c .before .before .before .before .before .before .normalise .ensures)
+    rw (← turned c .before .before .before .wrong-numbers .ensures, turned c .before .before .if1 .left, ← turned c .before .steps-from .ensures, ← turned c .metaspace-from .ensures) (c .before .before .before .before .before .before .normalise .ensures)
 
 pub varitmol-normalise-spec : {M : Type 1} → statement M
 varitmol-normalise-spec =
