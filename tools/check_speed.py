@@ -1,5 +1,5 @@
 #!/usr/bin/env python3
-"""Times the model check on accepted models of growing size.
+"""Times the model check on accepted models of growing size, and what prepare takes beyond it.
 
     tools/check_speed.py LIBRARY
 
@@ -7,7 +7,8 @@ LIBRARY is the static library as a shared one; tools/library.py has the commands
 A model's pieces are the 256 bytes to fall back on and random words with all their parts, its rows all the ways to join
 two such parts to a third, up to a number. So each letter of one byte is there twice, as in models that people use. A line
 has the best of ten calls, and of ten on the same model with its longest piece twice too: then the check looks for every
-piece in the lookup list.
+piece in the lookup list. Last stands how much longer prepare takes than the check on a model of that size whose marks all stand at the
+front of a piece, so that every piece is walked.
 """
 import ctypes
 import random
@@ -17,15 +18,15 @@ from library import NO_TOKENS, best_time, function, octets, words
 
 # Pieces and rows wanted.
 SIZES = ((4000, 12500), (8000, 25000), (16000, 50000), (32000, 100000), (64000, 200000))
-LETTERS = "▁▁eeeettaaooiinnsshrrdlucmfwygpbvkxqjzé"
+LETTERS = "eeeettaaooiinnsshrrdlucmfwygpbvkxqjzé"
 
 
-def model(pieces_wanted, rows_wanted):
-    """Pieces and rows; the first 256 pieces are the bytes."""
+def model(pieces_wanted, rows_wanted, front, letters):
+    """Pieces and rows; the first 256 pieces are the bytes. Words begin with front and go on with letters."""
     dice = random.Random(pieces_wanted)
     ids = {}
     while len(ids) + 256 < pieces_wanted:
-        word = "".join(dice.choice(LETTERS) for _ in range(dice.randrange(2, 9)))
+        word = front + "".join(dice.choice(letters) for _ in range(dice.randrange(2, 9)))
         for i in range(len(word)):
             for j in range(i + 1, len(word) + 1):
                 ids.setdefault(word[i:j], len(ids) + 256)
@@ -47,11 +48,14 @@ def columns(pieces, rows):
 
 
 def main():
-    check = function(sys.argv[1], "varitmol_check")
+    check, prepare = (function(sys.argv[1], name) for name in ("varitmol_check", "varitmol_prepare"))
+    derived = [(ctypes.c_uint64 * 1024)(), ctypes.c_size_t(1024)] + words([0] * 4423)
     for size in SIZES:
-        pieces, rows = model(*size)
+        pieces, rows = model(*size, "", "▁▁" + LETTERS)
         usual, twice = (best_time(check, columns(p, rows), 10) / 1e6 for p in (pieces, pieces + [max(pieces, key=len)]))
-        print(f"{len(pieces)} pieces, {len(rows)} rows: {usual:.2f} ms; with a long piece twice {twice:.2f} ms")
+        walked = columns(*model(*size, "▁", LETTERS))
+        beyond = (best_time(prepare, walked + derived, 10) - best_time(check, walked, 10)) / 1e6
+        print(f"{len(pieces)} pieces, {len(rows)} rows: {usual:.2f} ms; with a long piece twice {twice:.2f} ms; prepare {beyond:.2f} ms more")
 
 
 main()

@@ -1,6 +1,7 @@
 // Searches in the two sorted tables that begin from what was derived of them once.
 use model::Found;
 use model::compare::equal;
+use model::fallback::NO_ID;
 use model::mark::MARK;
 use model::search::find_piece_between;
 use model::search::find_row_between;
@@ -14,9 +15,6 @@ ghost use Rattle.model.specs.Mark.{mark};
 ghost use Rattle.model.specs.Model.{strings};
 ghost use Rattle.model.specs.inner.Search.{foundId};
 ghost use Rattle.index.specs.inner.Find.{idOf, keyStart, keyEnd, idFrom, rowFrom};
-
-// 4,294,967,295: no id.
-const NO_ID: u32 = 4294967295;
 
 // The id that a number of the index gives.
 pub fn id_of(id: u32) -> Found

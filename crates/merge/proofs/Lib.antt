@@ -8,3 +8,4 @@ pub mod WalkLaws
 pub mod TurnLaws
 pub mod FrontLaws
 pub mod ModelLaws
+pub mod MemoLaws

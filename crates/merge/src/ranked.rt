@@ -1,17 +1,19 @@
 // The plain ranked merge, in place.
 use crate::Turn;
-use crate::start::lesser;
+use crate::memo::known_row;
 use index::find_row_from;
 use model::Found;
+use model::tables::lesser;
 use model::tables::number_at;
 ghost use mathlib.Core.Path.{_≡_};
 ghost use Prim.Native.Nat.{_+_, _≤_};
 ghost use lib.ListN.{length};
 ghost use Rattle.merge.specs.Merge.{nextMerge};
+ghost use Rattle.merge.specs.inner.Memo.{Memo, Known};
 ghost use Rattle.merge.specs.inner.Turns.{rowIn, turnAt, turnOf, lowerTurn, joinedAt, Merged, mergedFront};
 
 // What a turn does with the pair `l`, `r` at `place`.
-fn row_of_pair(
+pub(crate) fn row_of_pair(
     left: &[u32],
     right: &[u32],
     result: &[u32],
@@ -68,28 +70,29 @@ fn next_merge(
     rank: &[u32],
     buckets: &[u32],
     shift: u32,
+    memo: &mut [u32],
     ids: &[u32],
 ) -> Turn
-    ensures { λ t. ⌜ t ≡ turnOf (nextMerge (rowIn (now (left .entry)) (now (right .entry)) (now (result .entry)) (now (rank .entry)) (now (buckets .entry)) shift) (now (ids .entry))) ⌝ }
+    requires { ⌜ Memo (rowIn (now left) (now right) (now result) (now rank) (now buckets) shift) (now memo) ⌝ }
+    ensures { λ t. ⌜ Known (rowIn (now (left .entry)) (now (right .entry)) (now (result .entry)) (now (rank .entry)) (now (buckets .entry)) shift) t (turnOf (nextMerge (rowIn (now (left .entry)) (now (right .entry)) (now (result .entry)) (now (rank .entry)) (now (buckets .entry)) shift) (now (ids .entry)))) (now (memo .exit)) ⌝ }
 {
     let mut best = Turn::Stop;
     let mut place = 0;
     let mut next = 1;
     while next < ids.len() {
-        best = lower(
-            best,
-            row_of_pair(
-                left,
-                right,
-                result,
-                rank,
-                buckets,
-                shift,
-                place,
-                ids[place],
-                ids[next],
-            ),
+        let turn = known_row(
+            left,
+            right,
+            result,
+            rank,
+            buckets,
+            shift,
+            memo,
+            place,
+            ids[place],
+            ids[next],
         );
+        best = lower(best, turn);
         place = next;
         next += 1;
     }
@@ -125,9 +128,19 @@ pub fn bpe_merge_symbols_ranked(
 ) -> usize
     ensures { λ n. ⌜ _≡_ {A = Merged} (record { count = n; ids = now (ids .exit) }) (mergedFront (rowIn (now (left .entry)) (now (right .entry)) (now (result .entry)) (now (rank .entry)) (now (buckets .entry)) shift) count (now (ids .entry))) ⌝ }
 {
+    let mut memo = [0u32; 160];
     let mut n = lesser(count, ids.len());
     loop {
-        match next_merge(left, right, result, rank, buckets, shift, &ids[..n]) {
+        match next_merge(
+            left,
+            right,
+            result,
+            rank,
+            buckets,
+            shift,
+            &mut memo,
+            &ids[..n],
+        ) {
             Turn::Stop => {
                 return n;
             }

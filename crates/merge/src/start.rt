@@ -5,18 +5,15 @@ use index::find_id;
 use model::Found;
 use model::compare::equal;
 use model::fallback::fallback_id;
-use utf8::chars::char_width;
+use model::mark::MARK;
+use model::tables::lesser;
+use utf8::chars::char_step;
 ghost use mathlib.Core.Path.{_≡_};
 ghost use mathlib.Core.Bool.{cond};
 ghost use mathlib.Core.List.{[]};
-ghost use Prim.Native.Nat.{max, min};
-ghost use Rattle.utf8.specs.Chars.{charWidth};
 ghost use Rattle.model.specs.Mark.{mark};
 ghost use Rattle.merge.specs.Start.{fallbackIds, lacksByte, asMark};
 ghost use Rattle.merge.specs.inner.Laid.{Laid, idOf, ownFound, laidIn, charLaid, markedChars, unitLaid, unitSymbols};
-
-// The bytes of the mark.
-const MARK: [u8; 3] = [0xE2, 0x96, 0x81];
 
 // The id of a character's own piece.
 fn own_id(
@@ -180,26 +177,6 @@ fn spell_mark(
         &MARK,
         out,
     )
-}
-
-// The width of the character at the head; a byte that begins none stands alone.
-fn char_step(text: &[u8]) -> usize
-    ensures { λ r. ⌜ r ≡ max 1 (charWidth (now (text .entry))) ⌝ }
-{
-    let w = char_width(text);
-    if w == 0 {
-        return 1;
-    }
-    w
-}
-
-pub(crate) fn lesser(a: usize, b: usize) -> usize
-    ensures { λ r. ⌜ r ≡ min a b ⌝ }
-{
-    if a <= b {
-        return a;
-    }
-    b
 }
 
 // The starting ids of a unit into the front of `out`, as far as it goes.

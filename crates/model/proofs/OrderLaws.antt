@@ -16,7 +16,6 @@ use Rattle.utf8.proofs.Tests.{either, clash}
 use Rattle.model.specs.declared.Order.{Order}
 use Rattle.model.specs.declared.Order.the-variants.{Less, Equal, Greater}
 use Rattle.model.specs.ByteOrder.{orderOr, byteOrder, isLess}
-use Rattle.model.specs.inner.Search.{pairOrder}
 
 module _ (xs ys : List ℕ) (i : ℕ) where
   -- where neither has ended, the bytes at the place decide, or else what follows
@@ -107,9 +106,6 @@ never q l m = clash (ap isLess q ∙ m) l
 pub unequal {ℓ} : {A : Type ℓ} {o p : Order} → o ≡ p → isEqual o ≡ false → isEqual p ≡ true → A
 unequal q l m = clash l (ap isEqual q ∙ m)
 
-pub order-irreflexive : (xs : List ℕ) → byteOrder xs xs ≡ Less → ⊥
-order-irreflexive xs e = never (sym e ∙ order-self xs) refl refl
-
 pub equal-strings : (xs ys : List ℕ) → byteOrder xs ys ≡ Equal → xs ≡ ys
 equal-strings [] [] e = refl
 equal-strings [] (y ∷ ys) e = unequal e refl refl
@@ -153,33 +149,10 @@ order-turned [] (y ∷ ys) = refl
 order-turned (x ∷ xs) [] = refl
 order-turned (x ∷ xs) (y ∷ ys) = rw (order-turned xs ys) (or-turned x y (byteOrder xs ys))
 
--- ---- the order of pairs is that of strings of two
+-- ---- a pair as a string of two
 
 abbrev pub twoOf : ℕ × ℕ → List ℕ
 twoOf p = p .0 ∷ p .1 ∷ []
-
-module _ (p q : ℕ × ℕ) where
-  pub pair-order : pairOrder p q ≡ byteOrder (twoOf p) (twoOf q)
-  unfolding pairOrder
-  pair-order = refl
-
-  pub equal-pairs : pairOrder p q ≡ Equal → p ≡ q
-  equal-pairs e =
-      let same : twoOf p ≡ twoOf q = equal-strings (twoOf p) (twoOf q) (sym pair-order ∙ e) in
-      λ i. (getD (same i) 0 0, getD (same i) 1 0)
-
-  pub pair-turned : pairOrder q p ≡ turned (pairOrder p q)
-  unfolding pairOrder
-  pair-turned = order-turned (twoOf p) (twoOf q)
-
-pub pair-self : (p : ℕ × ℕ) → pairOrder p p ≡ Equal
-pair-self p = pair-order p p ∙ order-self (twoOf p)
-
-pub pair-irreflexive : (p : ℕ × ℕ) → pairOrder p p ≡ Less → ⊥
-pair-irreflexive p e = order-irreflexive (twoOf p) (sym (pair-order p p) ∙ e)
-
-pub pair-trans : (p q r : ℕ × ℕ) → pairOrder p q ≡ Less → pairOrder q r ≡ Less → pairOrder p r ≡ Less
-pair-trans p q r h k = pair-order p r ∙ order-trans (twoOf p) (twoOf q) (twoOf r) (sym (pair-order p q) ∙ h) (sym (pair-order q r) ∙ k)
 
 -- ---- keys that ascend
 

@@ -8,7 +8,7 @@ ghost use Rattle.model.specs.inner.Search.{foundId};
 ghost use Rattle.model.specs.Check.{fallbackFits, badFallback};
 
 // 4,294,967,295: no id.
-const NO_ID: u32 = 4294967295;
+pub const NO_ID: u32 = 4294967295;
 
 // The fallback id of a byte.
 pub fn fallback_id(fallback: &[u32], byte: u8) -> Found

@@ -1,10 +1,11 @@
 // Reading the lent tables: numbers of a column, parts of bytes, and the strings that lie end to end.
+use crate::Span;
 ghost use mathlib.Core.Path.{_≡_};
 ghost use mathlib.Core.List.{[]};
 ghost use Prim.Native.Nat.{_-_, _<_, min};
 ghost use lib.ListN.{length, getD};
 ghost use lib.Seq.{slice};
-ghost use Rattle.model.specs.Model.{strings};
+ghost use Rattle.model.specs.Model.{strings, stepString};
 
 // The bytes from `start` up to `stop`, as far as there are any.
 pub fn part(bytes: &[u8], start: usize, stop: usize) -> &[u8]
@@ -67,4 +68,13 @@ pub fn string_count(offsets: &[u32]) -> usize
         return 0;
     }
     offsets.len() - 1
+}
+
+// The string of the step bytes that a span names.
+pub fn string_of(step_bytes: &[u8], span: Span) -> &[u8]
+    ensures { λ r. ⌜ now r ≡ stepString (now («step_bytes» .entry)) span ⌝ }
+{
+    let start = wide(span.place);
+    let len = wide(span.len);
+    part(step_bytes, start, start + len)
 }

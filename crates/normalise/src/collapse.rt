@@ -1,8 +1,8 @@
 // The step CollapseSpaces.
 use crate::Length;
 use crate::copy::copy_at;
-use crate::fit::lesser;
 use crate::prefix::space_run;
+use model::tables::lesser;
 ghost use mathlib.Core.Path.{_≡_};
 ghost use mathlib.Core.List.{_++_};
 ghost use Prim.Native.Nat.{_≤_};

@@ -1,7 +1,6 @@
 // Whether an output has room.
 use crate::Length;
 ghost use mathlib.Core.Path.{_≡_};
-ghost use Prim.Native.Nat.{min};
 ghost use Rattle.normalise.specs.inner.Fit.{fitted};
 
 pub fn fit(n: usize, room: usize) -> Length
@@ -11,13 +10,4 @@ pub fn fit(n: usize, room: usize) -> Length
         return Length::Fits(n);
     }
     Length::TooLong
-}
-
-pub fn lesser(a: usize, b: usize) -> usize
-    ensures { λ r. ⌜ r ≡ min a b ⌝ }
-{
-    if a <= b {
-        return a;
-    }
-    b
 }

@@ -14,10 +14,10 @@ mod strip;
 
 use finish::clear;
 use finish::end;
-use fit::lesser;
 use model::Answer;
 use model::Metaspace;
 use model::Step;
+use model::tables::lesser;
 use run::run_metaspace;
 use run::run_steps;
 use utf8::chars::valid_prefix;

@@ -1,9 +1,9 @@
 // Metaspace.
 use crate::Length;
 use crate::copy::copy_at;
-use crate::fit::lesser;
 use model::PrependScheme;
 use model::mark::MARK;
+use model::tables::lesser;
 use utf8::edges::starts_with;
 ghost use mathlib.Core.Path.{_≡_};
 ghost use mathlib.Core.List.{_++_};

@@ -1,7 +1,7 @@
 // The step Prepend.
 use crate::Length;
 use crate::copy::copy_at;
-use crate::fit::lesser;
+use model::tables::lesser;
 ghost use mathlib.Core.Path.{_≡_};
 ghost use mathlib.Core.List.{_++_};
 ghost use Prim.Native.Nat.{_≤_};

@@ -1,8 +1,8 @@
 // The step Replace.
 use crate::Length;
 use crate::copy::copy_at;
-use crate::fit::lesser;
-use crate::prefix::char_step;
+use model::tables::lesser;
+use utf8::chars::char_step;
 use utf8::edges::starts_with;
 ghost use mathlib.Core.Path.{_≡_};
 ghost use mathlib.Core.List.{[], _++_};

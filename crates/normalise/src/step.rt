@@ -4,23 +4,11 @@ use crate::collapse::collapse_space_runs;
 use crate::prepend::prepend;
 use crate::replace::replace;
 use crate::strip::strip;
-use model::Span;
 use model::Step;
-use model::tables::part;
-use model::tables::wide;
+use model::tables::string_of;
 ghost use mathlib.Core.Path.{_≡_};
-ghost use Rattle.model.specs.Model.{stepString};
 ghost use Rattle.normalise.specs.Steps.{applied};
 ghost use Rattle.normalise.specs.inner.Fit.{Put, put};
-
-// The string of the step bytes that a span names.
-fn string_of(step_bytes: &[u8], span: Span) -> &[u8]
-    ensures { λ r. ⌜ now r ≡ stepString (now («step_bytes» .entry)) span ⌝ }
-{
-    let start = wide(span.place);
-    let len = wide(span.len);
-    part(step_bytes, start, start + len)
-}
 
 pub fn apply_step(step_bytes: &[u8], step: Step, text: &[u8], room: usize, out: &mut [u8]) -> Length
     ensures { λ r. ⌜ _≡_ {A = Put} (record { length = r; out = now (out .exit) }) (put (applied (now («step_bytes» .entry)) step (now (text .entry))) room (now (out .entry))) ⌝ }

@@ -2,7 +2,7 @@
 use crate::Length;
 use crate::copy::copy_at;
 use crate::fit::fit;
-use crate::fit::lesser;
+use model::tables::lesser;
 use utf8::white_space::trim_end;
 use utf8::white_space::trim_start;
 ghost use mathlib.Core.Path.{_≡_};

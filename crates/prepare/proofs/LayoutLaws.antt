@@ -1,12 +1,11 @@
 -- Laws of the index: how long it is, that its parts written one after the other make it, and what is read from it.
-use mathlib.Core.Path.{_≡_, refl, sym, ap, _∙_}
-use mathlib.Core.List.{List, [], _∷_, _++_, append-nil, append-assoc}
+use mathlib.Core.Path.{_≡_, refl, sym, _∙_}
+use mathlib.Core.List.{List, [], _∷_, _++_, append-nil}
 use Prim.Native.Nat.{ℕ, _+_, _-_, _≤_}
 use native.Mathlib.Omega.{arith}
-use lib.ListN.{length, getD, take, drop, set, length-append}
-use lib.Seq.{slice}
+use lib.ListN.{length, take, drop, set, length-append}
 use Rattle.utf8.proofs.Fronts.{length-row}
-use Rattle.utf8.proofs.Writing.{Begins, Written, written-start, written-byte, written-part, written-length, written-ended}
+use Rattle.utf8.proofs.Writing.{Written, written-start, written-byte, written-part, written-length, written-ended}
 use Rattle.index.specs.Index.{firstByteStart, firstBytes, markId, bucketShift, bucketStart, buckets}
 use Rattle.prepare.specs.Layout.{indexRow}
 

@@ -3,3 +3,4 @@ pub mod WalkLaws
 pub mod LayoutLaws
 pub mod PutLaws
 pub mod PrepareLaws
+pub mod ReadLaws

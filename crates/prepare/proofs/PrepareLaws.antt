@@ -1,31 +1,34 @@
 -- The outcome of prepare by the first test that applies, and what is derived by the tables that it is derived of.
 use mathlib.Core.Path.{_≡_, refl, sym, ap, _∙_}
-use mathlib.Core.Bool.{Bool, true, false, cond, _||_}
-use mathlib.Core.List.{List, [], _∷_, _++_}
-use Prim.Native.Nat.{ℕ, _+_, _*_, _-_, _≤_, _<_}
+use mathlib.Core.Bool.{Bool, true, false, _||_}
+use mathlib.Core.List.{List, [], _∷_}
+use Prim.Native.Nat.{ℕ, _*_, _-_, _≤_, _<_}
 use native.Mathlib.Omega.{arith}
 use borrow.Author.Tests.{ltb-false, lt-ltb, le-ltb, ne-eqb}
 use lib.Dec.{ltb, eqb}
-use lib.ListN.{length, length-append, length-replicate, length-map}
-use Rattle.utf8.specs.Lists.{isEmpty, any, joinMap}
+use lib.ListN.{length, take, length-append, length-replicate, length-map}
+use Rattle.utf8.specs.Lists.{any, joinMap}
 use Rattle.utf8.proofs.Tests.{or-right}
 use Rattle.utf8.proofs.Places.{empty-by-length}
 use Rattle.utf8.proofs.Fronts.{length-row}
 use Rattle.model.specs.Model.{Model, strings, contents, piecesOf, stepsOf}
 use Rattle.model.specs.Answers.{lowest, zeros, done, refused, filled}
 use Rattle.model.specs.Check.{modelTests, checkNumber, textTooLong}
+use Rattle.model.specs.declared.Answer.{Answer}
+use Rattle.model.specs.declared.Step.{Step}
 use Rattle.model.specs.declared.Metaspace.{Metaspace}
 use Rattle.model.proofs.AnswerLaws.{lowest-later, lowest-first, tests-positive, tests-of-check}
 use Rattle.model.proofs.StringLaws.{length-strings}
 use Rattle.model.proofs.CompleteLaws.{lookup-length}
 use Rattle.model.proofs.Accepted.{Accepted}
-use Rattle.units.specs.Kinds.{Crossing, crossings, isTangled, splits, wordSplit, kindOf, rawPath}
+use Rattle.units.specs.Kinds.{crossings, isTangled, splits, wordSplit, kindOf, rawPath}
 use Rattle.units.specs.Adjacency.{adjacency, adjacencyWord}
-use Rattle.units.specs.Derived.{Place, crossingPlaces, crossingOf, notedOf, placeWords, notedWords, noting, rawPathBy}
+use Rattle.units.specs.Derived.{Place, Noting, crossingPlaces, crossingOf, notedOf, placeWords, notedWords, noting, rawPathBy}
 use Rattle.units.specs.declared.WordSplit.{WordSplit}
-use Rattle.units.specs.declared.WordSplit.the-variants.{SpaceRuns, EveryMark, None}
+use Rattle.units.specs.declared.RawPath.{RawPath}
 use Rattle.units.proofs.NotingLaws.{crossings-by-place}
 use Rattle.prepare.specs.Layout.{indexRow}
+use Rattle.prepare.specs.Numbers.{kindNumber, rawPathNumber}
 use Rattle.prepare.specs.Prepare.{derivedAdjacency, derivedIndex, PrepareOutcome, prepareNumber, prepareOutcome}
 use Rattle.prepare.specs.inner.Derive.{indexOf}
 
@@ -101,6 +104,26 @@ module _ (pieces : List (List ℕ)) (metaspace : Metaspace) where
       let words = joinMap placeWords places in
       length-append words (zeros (64 - length words)) ∙ omega (arith, words-long places, few-noted, length-replicate {A = ℕ} (64 - length words) 0)
 
+-- The index of what was derived one by one.
+module _ (pieces : List (List ℕ)) (lookup left : List ℕ) (empty : Bool) (bytes : List ℕ) (steps : List Step) (metaspace : Metaspace) (split : WordSplit) (count : ℕ) (noted : List ℕ) (is : _≡_ {A = Noting} (record { kind = split; count = count; noted = noted }) (noting pieces (wordSplit (crossings pieces) metaspace))) where
+  pub count-small : count ≤ 32
+  count-small = omega (arith, ap (λ (n : Noting). n .count) is, few-counted pieces metaspace)
+
+  pub words-64 : length noted ≡ 64
+  words-64 = ap (λ (n : Noting). length (n .noted)) is ∙ noted-long pieces metaspace
+
+  kind-is : split ≡ wordSplit (crossings pieces) metaspace
+  unfolding noting
+  kind-is = ap (λ (n : Noting). n .kind) is
+
+  pub index-derived : (path : RawPath) (kindWord pathWord : ℕ) → path ≡ rawPathBy split empty bytes steps metaspace → kindWord ≡ kindNumber split → pathWord ≡ rawPathNumber path
+      → indexRow kindWord pathWord count noted pieces lookup left ≡ indexOf pieces lookup left empty bytes steps metaspace
+  unfolding indexOf
+  index-derived path kindWord pathWord p k q =
+      let c : count ≡ noting pieces (wordSplit (crossings pieces) metaspace) .count = ap (λ (n : Noting). n .count) is in
+      let w : noted ≡ noting pieces (wordSplit (crossings pieces) metaspace) .noted = ap (λ (n : Noting). n .noted) is in
+      rw (k, q, p, kind-is, c, w)
+
 pub length-adjacency : (pieces : List (List ℕ)) → length (adjacency pieces) ≡ 1024
 unfolding adjacency
 length-adjacency pieces = length-row (adjacencyWord pieces) 1024
@@ -125,3 +148,12 @@ module _ (m : Model) where
 
     pub left-small : length (m .left) < 4294967296
     left-small = omega (arith, ok .sizes .rowLimit)
+
+  -- What the two rows hold, put together with the answer.
+  pub put-together : (rows index : List ℕ) → checkNumber m ≡ 0 → 1024 ≤ length rows → 4423 ≤ length index → (answer : Answer) (a i : List ℕ)
+      → answer ≡ done 5447 0 0
+      → a ≡ filled (adjacency (strings (m .pieceBytes) (m .pieceOffsets))) rows
+      → i ≡ filled (indexOf (strings (m .pieceBytes) (m .pieceOffsets)) (m .lookup) (m .left) secondEmpty (m .stepBytes) (take (m .stepCount) (m .steps)) (m .metaspace)) index
+      → _≡_ {A = PrepareOutcome} (record { answer = answer; adjacency = a; index = i }) (prepareOutcome m rows index)
+  unfolding derivedAdjacency piecesOf stepsOf
+  put-together rows index fine h k answer a i e f g = rw (e, f, g, index-of) (sym (prepared m rows index fine h k))

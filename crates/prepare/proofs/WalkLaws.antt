@@ -1,9 +1,8 @@
 -- Laws of walks along a table that go on from where the last ended, and of the rows that they fill.
 use mathlib.Core.Path.{_≡_, refl, sym, ap, _∙_}
-use mathlib.Core.Bool.{Bool, true, false}
+use mathlib.Core.Bool.{true}
 use mathlib.Core.List.{List, [], _∷_, _++_, map}
-use mathlib.Core.Option.{Option, none, some}
-use Prim.Native.Nat.{ℕ, suc, _+_, _-_, _*_, _^_, _≤_, _<_}
+use Prim.Native.Nat.{ℕ, _+_, _-_, _*_, _^_, _≤_, _<_}
 use native.Mathlib.Nat.{zero-add, zero-mul, mul-le-mul-right, pow-le-pow-right}
 use native.Mathlib.Numerals.{add-one}
 use native.Mathlib.Omega.{arith}
@@ -21,7 +20,7 @@ use Rattle.model.specs.inner.Search.{foundPiece, idAt}
 use Rattle.model.specs.declared.Found.{Found}
 use Rattle.model.specs.declared.Found.the-variants.{At, Nothing}
 use Rattle.model.proofs.LookupLaws.{id-found}
-use Rattle.index.specs.Index.{idOr, markId, firstByteStart, firstBytes, bucketShift, bucketStart, buckets}
+use Rattle.index.specs.Index.{idOr, markId, firstByteStart, bucketShift, bucketStart}
 use Rattle.prepare.specs.inner.Walk.{belowFrom, firstBelowFrom}
 
 -- ---- a walk, by one entry

@@ -48,6 +48,7 @@ fn fill_buckets(left: &[u32], shift: u32, words: &mut [u32])
     }
 }
 
+// How many left ids a bucket of that shift holds.
 fn power(shift: u32) -> usize
     requires { ⌜ shift ≤ 7 ⌝ }
     ensures { λ r. ⌜ (r ≡ 2 ^ shift) × (r ≤ 128) ⌝ }
@@ -78,10 +79,11 @@ fn mark_id(piece_bytes: &[u8], piece_offsets: &[u32], lookup: &[u32]) -> u32
 {
     match find_piece(piece_bytes, piece_offsets, lookup, &MARK) {
         Found::At(place) => number_at(lookup, place),
-        Found::Nothing => 4294967295,
+        Found::Nothing => model::fallback::NO_ID,
     }
 }
 
+// The words of the noted crossings.
 fn copy_crossings(noted: &[u32], words: &mut [u32])
     requires { ⌜ crossingsAt + length (now noted) ≤ length (now words) ⌝ }
     ensures { λ _. ⌜ now (words .exit) ≡ take crossingsAt (now (words .entry)) ++ now (noted .entry) ++ drop (crossingsAt + length (now (noted .entry))) (now (words .entry)) ⌝ }

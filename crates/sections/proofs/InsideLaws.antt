@@ -2,7 +2,7 @@
 use Prim.Native.Nat.{ℕ, zero, suc, _+_, _≤_, _<_}
 use native.Mathlib.Omega.{arith}
 use native.Mathlib.Nat.{suc-add, add-suc}
-use mathlib.Core.Path.{_≡_, refl, sym, ap, ap₂, subst, _∙_}
+use mathlib.Core.Path.{_≡_, refl, sym, ap, subst, _∙_}
 use mathlib.Core.Bool.{Bool, true, false, cond}
 use mathlib.Core.Logic.{⊎-elim}
 use mathlib.Core.List.{List, [], _∷_}
@@ -10,14 +10,13 @@ use mathlib.Core.Option.{Option, none, some}
 use borrow.Author.Tests.{ltb-true, ltb-false}
 use lib.Dec.{leb, ltb}
 use lib.ListN.{length, getD, drop, length-drop, drop-of-length-le}
-use lib.Seq.{drop-cons}
 use Rattle.utf8.specs.Lists.{filter, numbered, startsWith}
 use Rattle.utf8.proofs.Tests.{either}
 use Rattle.utf8.proofs.Starts.{starts-length}
-use Rattle.utf8.proofs.Places.{length-numbered, getD-numbered}
+use Rattle.utf8.proofs.Places.{length-numbered}
 use Rattle.sections.specs.Matches.{Match, end, longer, longest, longestAt}
-use Rattle.sections.specs.inner.Seek.{mayBegin, rowIn, rowAt, rowBy, placed, matchBy}
-use Rattle.sections.proofs.SeekLaws.{longestFrom}
+use Rattle.sections.specs.inner.Seek.{mayBegin, rowIn, rowAt, placed, matchBy}
+use Rattle.sections.proofs.SeekLaws.{numbered-at}
 
 -- A content with its row that stands at the head of the text.
 record Standing (contents : List (List ℕ)) (text : List ℕ) (c : ℕ × List ℕ) : Type 0 where
@@ -32,12 +31,7 @@ module _ (contents : List (List ℕ)) (text : List ℕ) where
   rest i = filter (λ (c : ℕ × List ℕ). startsWith (c .1) text) (drop i (numbered contents))
 
   from-row : (i : ℕ) → i < length contents → (t : Bool) → startsWith (getD contents i []) text ≡ t → rest i ≡ cond t ((i, getD contents i []) ∷ rest (suc i)) (rest (suc i))
-  from-row i h t e = rw (whole, e)
-    where
-      whole : drop i (numbered contents) ≡ (i, getD contents i []) ∷ drop (suc i) (numbered contents)
-      whole =
-          drop-cons (numbered contents) i (0, []) (omega (arith, length-numbered contents))
-          ∙ ap (λ (c : ℕ × List ℕ). c ∷ drop (suc i) (numbered contents)) (getD-numbered contents i 0 [] h)
+  from-row i h t e = rw (numbered-at contents i h, e)
 
   longest-stands : (k i : ℕ) → i + k ≡ length contents → (c : ℕ × List ℕ) → longest (rest i) ≡ some c → Standing contents text c
   longest-stands zero i e c q =
@@ -75,17 +69,17 @@ module _ (contents : List (List ℕ)) (text : List ℕ) where
           let content : getD contents row [] ≡ c .1 = ap (λ (r : ℕ). getD contents r []) (sym same) ∙ sym (stands .is) in
           omega (arith, ap length content, starts-length (c .1) text (stands .starts))
 
-module _ (first : List ℕ) (contents : List (List ℕ)) where
-  ends-inside : (place : ℕ) (text : List ℕ) (match : Match) → matchBy first contents place text ≡ some match → end contents match ≤ place + length text
+module _ (begins : List ℕ) (contents : List (List ℕ)) where
+  ends-inside : (place : ℕ) (text : List ℕ) (match : Match) → matchBy begins contents place text ≡ some match → end contents match ≤ place + length text
   unfolding end
   ends-inside place [] match q = not-none q
-  ends-inside place (b ∷ text) match q = go (λ e. ends-inside (suc place) text match e) (mayBegin first b) (rowAt contents (b ∷ text)) refl q
+  ends-inside place (b ∷ text) match q = go (λ e. ends-inside (suc place) text match e) (mayBegin begins b) (rowAt contents (b ∷ text)) refl q
     where
       Within : ℕ → List ℕ → Type 0
       Within p t = match .place + length (getD contents (match .row) []) ≤ p + length t
 
-      go : (matchBy first contents (suc place) text ≡ some match → Within (suc place) text)
-          → (t : Bool) (o : Option ℕ) → rowAt contents (b ∷ text) ≡ o → placed place (cond t o none) (matchBy first contents (suc place) text) ≡ some match → Within place (b ∷ text)
+      go : (matchBy begins contents (suc place) text ≡ some match → Within (suc place) text)
+          → (t : Bool) (o : Option ℕ) → rowAt contents (b ∷ text) ≡ o → placed place (cond t o none) (matchBy begins contents (suc place) text) ≡ some match → Within place (b ∷ text)
       go later false o e s = omega (arith, later s)
       go later true none e s = omega (arith, later s)
       go later true (some row) e s =
@@ -95,8 +89,8 @@ module _ (first : List ℕ) (contents : List (List ℕ)) where
           omega (arith, at, ap length of, row-inside contents (b ∷ text) row e)
 
   -- A match ends within its text.
-  pub match-inside : (text : List ℕ) (from : ℕ) (match : Match) → matchBy first contents from (drop from text) ≡ some match → end contents match ≤ length text
+  pub match-inside : (text : List ℕ) (from : ℕ) (match : Match) → matchBy begins contents from (drop from text) ≡ some match → end contents match ≤ length text
   match-inside text from match q =
       ⊎-elim (λ e. omega (arith, ltb-true from (length text) e, ends-inside from (drop from text) match q, length-drop from text))
-      (λ e. not-none (sym (ap (matchBy first contents from) (drop-of-length-le text (ltb-false from (length text) e))) ∙ q))
+      (λ e. not-none (sym (ap (matchBy begins contents from) (drop-of-length-le text (ltb-false from (length text) e))) ∙ q))
       (either (ltb from (length text)))

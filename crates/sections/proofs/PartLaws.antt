@@ -23,8 +23,6 @@ use Rattle.sections.specs.SecondList.{NormalPart, normalPartOf, normalPa
 use Rattle.sections.specs.inner.Seek.{matchBy}
 use Rattle.sections.specs.inner.Strips.{stopAt, startAt}
 use Rattle.sections.specs.inner.Walk.{takenOr, takenFor, tokenItem, itemAt, nextItem, partsStart}
-use Rattle.sections.specs.declared.Taken.{Taken}
-use Rattle.sections.specs.declared.Taken.the-variants.{Here, Nowhere}
 use Rattle.sections.specs.declared.Cursor.{Cursor}
 use Rattle.sections.specs.declared.Cursor.the-variants.{Whole, Seek, Held, Done}
 use Rattle.sections.specs.declared.Next.{Next}
@@ -147,17 +145,17 @@ module _ (text : List ℕ) (start : ℕ) (first : Bool) where
       go true e = rw (not-empty (drop start text) (omega (arith, ltb-true start (length text) e, length-drop start text)), part-end text start)
       go false e = rw (drop-of-length-le text (ltb-false start (length text) e))
 
-module _ (t : TokenList) (first : List ℕ) (sound : Sound first (contents t)) (fine : badToken (contents t) ≡ false) (text : List ℕ) where
+module _ (t : TokenList) (begins : List ℕ) (sound : Sound begins (contents t)) (fine : badToken (contents t) ≡ false) (text : List ℕ) where
   module _ (start turns : ℕ) (opening : Bool) where
     abbrev rest : List ℕ
     rest = drop start text
 
-    found : matchBy first (contents t) start rest ≡ movedIf start (firstMatch (contents t) 0 rest)
-    found = match-first first (contents t) sound fine start rest ∙ rest-match (contents t) start rest
+    found : matchBy begins (contents t) start rest ≡ movedIf start (firstMatch (contents t) 0 rest)
+    found = match-first begins (contents t) sound fine start rest ∙ rest-match (contents t) start rest
 
     given : (o : Option Match) → firstMatch (contents t) 0 rest ≡ o
         → normalPartsAround t (normalPartsFor turns t false) opening rest o
-        ≡ partsGiven t text (itemAt (t .ids) (t .lstrip) (t .rstrip) true text start opening (takenOr (contents t) start turns (takenFor turns first (contents t) text start) (movedIf start o)))
+        ≡ partsGiven t text (itemAt (t .ids) (t .lstrip) (t .rstrip) true text start opening (takenOr (contents t) start turns (takenFor turns begins (contents t) text start) (movedIf start o)))
     unfolding partsLeft tokenItem tokenAt isSwallowed end
     given none e = last-part text start opening ∙ go (ltb start (length text))
       where
@@ -176,7 +174,7 @@ module _ (t : TokenList) (first : List ℕ) (sound : Sound first (contents t)) (
 
         inside : k ≤ length rest
         inside =
-            omega (arith, stop-below t text start m, match-inside first (contents t) rest 0 m (match-first first (contents t) sound fine 0 rest ∙ e))
+            omega (arith, stop-below t text start m, match-inside begins (contents t) rest 0 m (match-first begins (contents t) sound fine 0 rest ∙ e))
 
         behind : drop (startAfter t rest m) rest ≡ drop next text
         behind = drop-drop (startAfter t rest m) start text ∙ ap (λ (n : ℕ). drop n text) (sym (start-moved t text start m))
@@ -188,7 +186,7 @@ module _ (t : TokenList) (first : List ℕ) (sound : Sound first (contents t)) (
         go false = refl
 
   -- Each step gives the first of what is left, and leaves the others.
-  pub parts-step : (cursor : Cursor) → partsLeft t text cursor ≡ partsGiven t text (nextItem t first true text cursor)
+  pub parts-step : (cursor : Cursor) → partsLeft t text cursor ≡ partsGiven t text (nextItem t begins true text cursor)
   unfolding partsLeft nextItem tokenItem tokenAt
   parts-step Whole = rw (part-end text 0)
   parts-step (Seek start from zero opening) = refl

@@ -1,19 +1,17 @@
 -- Following a walk item by item gives the sections of a text and the tokens between them.
 use Prim.Native.Nat.{ℕ, zero, suc, _-_}
-use mathlib.Core.Path.{_≡_, refl, sym, ap, _∙_}
+use mathlib.Core.Path.{_≡_, refl, _∙_}
 use mathlib.Core.Bool.{Bool, true, false, cond}
 use mathlib.Core.List.{List, [], _∷_, _++_}
 use mathlib.Core.Option.{Option, none, some}
 use lib.Dec.{ltb, eqb}
 use lib.ListN.{length, drop}
-use Rattle.utf8.specs.Lists.{isEmpty}
 use Rattle.utf8.proofs.Places.{empty-by-length}
 use Rattle.model.specs.Model.{TokenList, contents, tokenAt}
 use Rattle.model.specs.Check.{badToken}
 use Rattle.model.proofs.StringLaws.{length-strings}
 use Rattle.sections.specs.Matches.{Match, end, firstMatch, matchThen, matchesFor, matches}
 use Rattle.sections.specs.Sections.{Item, token, plain, Section, stopBefore, startAfter, sectionOf, isSwallowed, sectionsFrom, sections}
-use Rattle.sections.specs.inner.Seek.{matchBy}
 use Rattle.sections.specs.inner.Strips.{stopAt, startAt}
 use Rattle.sections.specs.inner.Walk.{takenOr, takenFor, tokenItem, itemAt, nextItem, sectionsStart}
 use Rattle.sections.specs.declared.Taken.{Taken}
@@ -56,26 +54,26 @@ sectionsTaken t text start opening (Here place row e turns) =
     sectionOf start (stopAt (tokenAt t row .lstrip) text start place) opening
     ++ token (tokenAt t row .id) ∷ sectionsFrom t text (startAt (tokenAt t row .rstrip) text e) false (matchesFor turns (contents t) text e)
 
-module _ (t : TokenList) (first : List ℕ) (sound : Sound first (contents t)) (fine : badToken (contents t) ≡ false) (text : List ℕ) where
+module _ (t : TokenList) (begins : List ℕ) (sound : Sound begins (contents t)) (fine : badToken (contents t) ≡ false) (text : List ℕ) where
   by-taken : (turns : ℕ) (start from : ℕ) (opening : Bool)
-      → sectionsFrom t text start opening (matchesFor turns (contents t) text from) ≡ sectionsTaken t text start opening (takenFor turns first (contents t) text start from)
+      → sectionsFrom t text start opening (matchesFor turns (contents t) text from) ≡ sectionsTaken t text start opening (takenFor turns begins (contents t) text start from)
   unfolding stopBefore startAfter stopAt startAt
   by-taken zero start from opening = refl
   by-taken (suc turns) start from opening =
-      rw (match-first first (contents t) sound fine from (drop from text)) (go (λ f. by-taken turns start f opening) (firstMatch (contents t) from (drop from text)))
+      rw (match-first begins (contents t) sound fine from (drop from text)) (go (λ f. by-taken turns start f opening) (firstMatch (contents t) from (drop from text)))
     where
       pick : (m : Match) (b : Bool)
-          → sectionsFrom t text start opening (matchesFor turns (contents t) text (end (contents t) m)) ≡ sectionsTaken t text start opening (takenFor turns first (contents t) text start (end (contents t) m))
+          → sectionsFrom t text start opening (matchesFor turns (contents t) text (end (contents t) m)) ≡ sectionsTaken t text start opening (takenFor turns begins (contents t) text start (end (contents t) m))
           → cond b (sectionsFrom t text start opening (matchesFor turns (contents t) text (end (contents t) m)))
           (sectionOf start (stopBefore t text start m) opening ++ token (tokenAt t (m .row) .id) ∷ sectionsFrom t text (startAfter t text m) false (matchesFor turns (contents t) text (end (contents t) m)))
-          ≡ sectionsTaken t text start opening (cond b (takenFor turns first (contents t) text start (end (contents t) m)) (Here (m .place) (m .row) (end (contents t) m) turns))
+          ≡ sectionsTaken t text start opening (cond b (takenFor turns begins (contents t) text start (end (contents t) m)) (Here (m .place) (m .row) (end (contents t) m) turns))
       pick m true e = e
       pick m false e = refl
 
-      go : ((f : ℕ) → sectionsFrom t text start opening (matchesFor turns (contents t) text f) ≡ sectionsTaken t text start opening (takenFor turns first (contents t) text start f))
+      go : ((f : ℕ) → sectionsFrom t text start opening (matchesFor turns (contents t) text f) ≡ sectionsTaken t text start opening (takenFor turns begins (contents t) text start f))
           → (o : Option Match)
           → sectionsFrom t text start opening (matchThen (λ (m : Match). matchesFor turns (contents t) text (end (contents t) m)) o)
-          ≡ sectionsTaken t text start opening (takenOr (contents t) start turns (takenFor turns first (contents t) text start) o)
+          ≡ sectionsTaken t text start opening (takenOr (contents t) start turns (takenFor turns begins (contents t) text start) o)
       go later none = refl
       go later (some m) = pick m (isSwallowed start m) (later (end (contents t) m))
 
@@ -100,9 +98,9 @@ module _ (t : TokenList) (first : List ℕ) (sound : Sound first (contents t)) (
       go false = refl
 
   -- Each step gives the first of what is left, and leaves the others.
-  pub sections-step : (cursor : Cursor) → sectionsLeft t text cursor ≡ sectionsGiven t text (nextItem t first false text cursor)
+  pub sections-step : (cursor : Cursor) → sectionsLeft t text cursor ≡ sectionsGiven t text (nextItem t begins false text cursor)
   unfolding sectionsLeft nextItem tokenItem tokenAt
   sections-step Whole = refl
-  sections-step (Seek start from turns opening) = by-taken turns start from opening ∙ given start opening (takenFor turns first (contents t) text start from)
+  sections-step (Seek start from turns opening) = by-taken turns start from opening ∙ given start opening (takenFor turns begins (contents t) text start from)
   sections-step (Held e row turns) = refl
   sections-step Done = refl

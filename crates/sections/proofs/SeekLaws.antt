@@ -2,8 +2,8 @@
 use Prim.Native.Nat.{ℕ, suc, _+_, _-_, _≤_, _<_}
 use native.Mathlib.Omega.{arith}
 use native.Mathlib.Numerals.{add-one}
-use mathlib.Core.Path.{_≡_, refl, sym, ap, ap₂, _∙_}
-use mathlib.Core.Bool.{Bool, true, false, not, cond, _&&_, _||_}
+use mathlib.Core.Path.{_≡_, refl, sym, ap, _∙_}
+use mathlib.Core.Bool.{Bool, true, false, not, cond, _||_}
 use mathlib.Core.Logic.{⊎-elim}
 use mathlib.Core.List.{List, [], _∷_, _++_, map, append-nil}
 use mathlib.Core.Option.{Option, none, some}
@@ -98,18 +98,18 @@ module _ (contents : List (List ℕ)) (row : List ℕ) (i : ℕ) where
   pub noted-ended : length contents ≤ i → noteFirsts (drop i contents) row ≡ row
   noted-ended h = rw (drop-of-length-le contents h)
 
-module _ (first : List ℕ) (b : ℕ) where
-  pub may-past : length first ≤ b → mayBegin first b ≡ true
+module _ (begins : List ℕ) (b : ℕ) where
+  pub may-past : length begins ≤ b → mayBegin begins b ≡ true
   unfolding mayBegin
-  may-past h = rw (List·getD-eq-default first 1 {n = b} h)
+  may-past h = rw (List·getD-eq-default begins 1 {n = b} h)
 
-  pub may-at : b < length first → mayBegin first b ≡ not (eqb (getD first b 0) 0)
+  pub may-at : b < length begins → mayBegin begins b ≡ not (eqb (getD begins b 0) 0)
   unfolding mayBegin
-  may-at h = rw (getD-inside first b 1 0 h)
+  may-at h = rw (getD-inside begins b 1 0 h)
 
 -- What such a row rules out begins no content.
-pub record Sound (first : List ℕ) (contents : List (List ℕ)) : Type 0 where
-  pub none-begins : (b : ℕ) → mayBegin first b ≡ false → any (beginsWith b) contents ≡ false
+pub record Sound (begins : List ℕ) (contents : List (List ℕ)) : Type 0 where
+  pub none-begins : (b : ℕ) → mayBegin begins b ≡ false → any (beginsWith b) contents ≡ false
 
 pub first-sound : (contents : List (List ℕ)) (n : ℕ) → Sound (firstBytes contents n) contents
 unfolding mayBegin
@@ -123,6 +123,12 @@ first-sound contents n = record { none-begins = λ b e. at-byte b e }
     at-byte b e = ⊎-elim (λ q. inside b (any (beginsWith b) contents) (rw (firstBytes-at contents n b 1 (ltb-true b n q)) at e)) (λ q. clash e (rw (List·getD-eq-default (firstBytes contents n) 1 {n = b} (omega (arith, length-firstBytes contents n, ltb-false b n q))))) (either (ltb b n))
 
 -- ---- the longest content at the head of a text
+
+-- The rows from i on begin with that of i.
+pub numbered-at : (contents : List (List ℕ)) (i : ℕ) → i < length contents → drop i (numbered contents) ≡ (i, getD contents i []) ∷ drop (suc i) (numbered contents)
+numbered-at contents i h =
+    drop-cons (numbered contents) i (0, []) (omega (arith, length-numbered contents))
+    ∙ ap (λ (c : ℕ × List ℕ). c ∷ drop (suc i) (numbered contents)) (getD-numbered contents i 0 [] h)
 
 -- The longest of those from row i on.
 abbrev pub longestFrom : List (List ℕ) → List ℕ → ℕ → Option (ℕ × List ℕ)
@@ -167,9 +173,7 @@ module _ (contents : List (List ℕ)) (text : List ℕ) where
         next = omega arith
 
         whole : drop (row - 1) (numbered contents) ≡ (row - 1, content) ∷ drop row (numbered contents)
-        whole =
-            drop-cons (numbered contents) (row - 1) (0, []) (omega (arith, length-numbered contents))
-            ∙ ap₂ {C = List (ℕ × List ℕ)} _∷_ (getD-numbered contents (row - 1) 0 [] (omega arith)) (ap (λ (n : ℕ). drop n (numbered contents)) next)
+        whole = numbered-at contents (row - 1) (omega arith) ∙ ap (λ (n : ℕ). (row - 1, content) ∷ drop n (numbered contents)) next
 
     pub best-apart : startsWith content text ≡ false → Best contents text (row - 1) best long
     best-apart e = record { is = one-more false e ∙ b .is; size = b .size }
@@ -193,17 +197,17 @@ module _ (contents : List (List ℕ)) (text : List ℕ) where
 
 -- ---- the leftmost place
 
-pub rowBy-at : (first : List ℕ) (contents : List (List ℕ)) (text : List ℕ) → 0 < length text
-    → rowBy first contents text ≡ cond (mayBegin first (getD text 0 0)) (rowAt contents text) none
-rowBy-at first contents [] h = absurd (omega arith)
-rowBy-at first contents (x ∷ text) h = refl
+pub rowBy-at : (begins : List ℕ) (contents : List (List ℕ)) (text : List ℕ) → 0 < length text
+    → rowBy begins contents text ≡ cond (mayBegin begins (getD text 0 0)) (rowAt contents text) none
+rowBy-at begins contents [] h = absurd (omega arith)
+rowBy-at begins contents (x ∷ text) h = refl
 
-module _ (first : List ℕ) (contents : List (List ℕ)) (text : List ℕ) (place : ℕ) where
+module _ (begins : List ℕ) (contents : List (List ℕ)) (text : List ℕ) (place : ℕ) where
   pub match-next : place < length text
-      → matchBy first contents place (drop place text) ≡ placed place (rowBy first contents (drop place text)) (matchBy first contents (place + 1) (drop (place + 1) text))
+      → matchBy begins contents place (drop place text) ≡ placed place (rowBy begins contents (drop place text)) (matchBy begins contents (place + 1) (drop (place + 1) text))
   match-next h = rw (drop-cons text place 0 h, add-one)
 
-  pub match-ended : length text ≤ place → matchBy first contents place (drop place text) ≡ none
+  pub match-ended : length text ≤ place → matchBy begins contents place (drop place text) ≡ none
   match-ended h = rw (drop-of-length-le text h)
 
 -- ---- with a sound row nothing is passed over
@@ -225,17 +229,17 @@ unfolding longestAt
 none-longest contents b text e f = ap longest (none-stands contents 0 b text e f)
 
 -- A search that passes over what a sound row rules out finds the first match.
-pub match-first : (first : List ℕ) (contents : List (List ℕ)) → Sound first contents → badToken contents ≡ false
-    → (place : ℕ) (text : List ℕ) → matchBy first contents place text ≡ firstMatch contents place text
+pub match-first : (begins : List ℕ) (contents : List (List ℕ)) → Sound begins contents → badToken contents ≡ false
+    → (place : ℕ) (text : List ℕ) → matchBy begins contents place text ≡ firstMatch contents place text
 unfolding rowAt
-match-first first contents sound fine place [] = refl
-match-first first contents sound fine place (b ∷ text) = go (mayBegin first b) refl (match-first first contents sound fine (suc place) text)
+match-first begins contents sound fine place [] = refl
+match-first begins contents sound fine place (b ∷ text) = go (mayBegin begins b) refl (match-first begins contents sound fine (suc place) text)
   where
     same-match : (l : Option (ℕ × List ℕ)) {x y : Option Match} → x ≡ y → placed place (rowIn l) x ≡ matchOr place l y
     same-match none e = e
     same-match (some c) e = refl
 
-    go : (t : Bool) → mayBegin first b ≡ t → matchBy first contents (suc place) text ≡ firstMatch contents (suc place) text
-        → placed place (cond t (rowAt contents (b ∷ text)) none) (matchBy first contents (suc place) text) ≡ matchOr place (longestAt contents (b ∷ text)) (firstMatch contents (suc place) text)
+    go : (t : Bool) → mayBegin begins b ≡ t → matchBy begins contents (suc place) text ≡ firstMatch contents (suc place) text
+        → placed place (cond t (rowAt contents (b ∷ text)) none) (matchBy begins contents (suc place) text) ≡ matchOr place (longestAt contents (b ∷ text)) (firstMatch contents (suc place) text)
     go true q e = same-match (longestAt contents (b ∷ text)) e
     go false q e = rw (none-longest contents b text (no-empty contents fine) (sound .none-begins b q)) e

@@ -1,5 +1,5 @@
 -- A walk ends: each step leaves fewer.
-use Prim.Native.Nat.{ℕ, zero, suc, _+_, _*_, _≤_, _<_}
+use Prim.Native.Nat.{ℕ, zero, suc, _+_, _*_, _≤_}
 use native.Mathlib.Omega.{arith}
 use mathlib.Core.Bool.{Bool, true, false, cond, _&&_}
 use mathlib.Core.List.{List}
@@ -37,16 +37,16 @@ abbrev turnsOf : Taken → ℕ
 turnsOf Nowhere = 0
 turnsOf (Here place row e turns) = suc turns
 
-turns-enough : (turns : ℕ) (first : List ℕ) (contents : List (List ℕ)) (text : List ℕ) (start from : ℕ) → turnsOf (takenFor turns first contents text start from) ≤ turns
-turns-enough zero first contents text start from = omega arith
-turns-enough (suc turns) first contents text start from = go (λ f. turns-enough turns first contents text start f) (matchBy first contents from (drop from text))
+turns-enough : (turns : ℕ) (begins : List ℕ) (contents : List (List ℕ)) (text : List ℕ) (start from : ℕ) → turnsOf (takenFor turns begins contents text start from) ≤ turns
+turns-enough zero begins contents text start from = omega arith
+turns-enough (suc turns) begins contents text start from = go (λ f. turns-enough turns begins contents text start f) (matchBy begins contents from (drop from text))
   where
-    pick : (m : Match) (b : Bool) → turnsOf (takenFor turns first contents text start (end contents m)) ≤ turns
-        → turnsOf (cond b (takenFor turns first contents text start (end contents m)) (Here (m .place) (m .row) (end contents m) turns)) ≤ suc turns
+    pick : (m : Match) (b : Bool) → turnsOf (takenFor turns begins contents text start (end contents m)) ≤ turns
+        → turnsOf (cond b (takenFor turns begins contents text start (end contents m)) (Here (m .place) (m .row) (end contents m) turns)) ≤ suc turns
     pick m true h = omega arith
     pick m false h = omega arith
 
-    go : ((f : ℕ) → turnsOf (takenFor turns first contents text start f) ≤ turns) → (o : Option Match) → turnsOf (takenOr contents start turns (takenFor turns first contents text start) o) ≤ suc turns
+    go : ((f : ℕ) → turnsOf (takenFor turns begins contents text start f) ≤ turns) → (o : Option Match) → turnsOf (takenOr contents start turns (takenFor turns begins contents text start) o) ≤ suc turns
     go later none = omega arith
     go later (some m) = pick m (isSwallowed start m) (later (end contents m))
 
@@ -68,17 +68,17 @@ module _ (ids : List ℕ) (lstrip rstrip : List Bool) (afresh : Bool) (text : Li
       go true = omega arith
       go false = omega (arith, token-steps e row turns)
 
-module _ (t : TokenList) (first : List ℕ) (afresh : Bool) (text : List ℕ) where
-  pub fewer-steps : (cursor : Cursor) → stepsGiven (nextItem t first afresh text cursor) ≤ stepsLeft cursor
+module _ (t : TokenList) (begins : List ℕ) (afresh : Bool) (text : List ℕ) where
+  pub fewer-steps : (cursor : Cursor) → stepsGiven (nextItem t begins afresh text cursor) ≤ stepsLeft cursor
   unfolding nextItem
   fewer-steps Whole = omega arith
   fewer-steps (Seek start from turns opening) = go (afresh && eqb turns 0)
     where
       taken : Taken
-      taken = takenFor turns first (contents t) text start (cond afresh start from)
+      taken = takenFor turns begins (contents t) text start (cond afresh start from)
 
       go : (b : Bool) → stepsGiven (cond b Finished (itemAt (t .ids) (t .lstrip) (t .rstrip) afresh text start opening taken)) ≤ 2 * turns + 1
       go true = omega arith
-      go false = omega (arith, item-steps (t .ids) (t .lstrip) (t .rstrip) afresh text start opening taken, turns-enough turns first (contents t) text start (cond afresh start from))
+      go false = omega (arith, item-steps (t .ids) (t .lstrip) (t .rstrip) afresh text start opening taken, turns-enough turns begins (contents t) text start (cond afresh start from))
   fewer-steps (Held e row turns) = token-steps (t .ids) (t .lstrip) (t .rstrip) afresh text e row turns
   fewer-steps Done = omega arith

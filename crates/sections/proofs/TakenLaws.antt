@@ -1,46 +1,52 @@
 -- Laws of the next match that is not swallowed: one match more.
-use Prim.Native.Nat.{ℕ, zero, suc, _-_, _≤_, _<_, min}
+use Prim.Native.Nat.{ℕ, zero, suc, _-_, _≤_, _<_}
 use native.Mathlib.Omega.{arith}
-use mathlib.Core.Path.{_≡_, refl, sym, ap, _∙_}
+use mathlib.Core.Path.{_≡_, sym, ap, _∙_}
 use mathlib.Core.List.{List}
-use mathlib.Core.Option.{Option, none, some}
+use mathlib.Core.Option.{none, some}
 use borrow.Author.Tests.{lt-ltb, le-ltb}
-use lib.ListN.{length, drop}
+use lib.ListN.{drop}
 use Rattle.sections.specs.Matches.{Match, end}
 use Rattle.sections.specs.Sections.{isSwallowed}
 use Rattle.sections.specs.inner.Seek.{matchBy}
 use Rattle.sections.specs.inner.Strips.{endWithin}
 use Rattle.sections.specs.inner.Walk.{takenOr, takenFor}
-use Rattle.sections.specs.declared.Taken.{Taken}
 use Rattle.sections.specs.declared.Taken.the-variants.{Here, Nowhere}
 use Rattle.sections.proofs.InsideLaws.{match-inside}
 
-module _ (first : List ℕ) (contents : List (List ℕ)) (text : List ℕ) (start : ℕ) where
-  pub taken-ended : (turns at : ℕ) → turns ≡ 0 → takenFor turns first contents text start at ≡ Nowhere
-  taken-ended turns at e = rw e
+-- What is taken of the matches that are left, from a place on, is what is taken of all.
+pub record Taking (begins : List ℕ) (contents : List (List ℕ)) (text : List ℕ) (start from turns at left : ℕ) : Type 0 where
+  pub is : takenFor turns begins contents text start from ≡ takenFor left begins contents text start at
 
-  module _ (turns at : ℕ) (some-left : 0 < turns) where
-    one-more : takenFor turns first contents text start at ≡ takenOr contents start (turns - 1) (takenFor (turns - 1) first contents text start) (matchBy first contents at (drop at text))
-    one-more = go turns some-left
-      where
-        go : (n : ℕ) → 0 < n → takenFor n first contents text start at ≡ takenOr contents start (n - 1) (takenFor (n - 1) first contents text start) (matchBy first contents at (drop at text))
-        go zero h = absurd (omega arith)
-        go (suc n) h =
-            let same : n ≡ suc n - 1 = omega arith in
-            ap (λ (k : ℕ). takenOr contents start k (takenFor k first contents text start) (matchBy first contents at (drop at text))) same
+one-more : (begins : List ℕ) (contents : List (List ℕ)) (text : List ℕ) (start at left : ℕ) → 0 < left
+    → takenFor left begins contents text start at
+    ≡ takenOr contents start (left - 1) (takenFor (left - 1) begins contents text start) (matchBy begins contents at (drop at text))
+one-more begins contents text start at zero h = absurd (omega arith)
+one-more begins contents text start at (suc n) h =
+    let same : n ≡ suc n - 1 = omega arith in
+    ap (λ (k : ℕ). takenOr contents start k (takenFor k begins contents text start) (matchBy begins contents at (drop at text))) same
 
-    pub taken-missing : none ≡ matchBy first contents at (drop at text) → takenFor turns first contents text start at ≡ Nowhere
-    taken-missing e = one-more ∙ rw (← e)
+module _ {begins : List ℕ} {contents : List (List ℕ)} {text : List ℕ} {start from turns at left : ℕ} (taking : Taking begins contents text start from turns at left) where
+  pub taking-ended : left ≡ 0 → Nowhere ≡ takenFor turns begins contents text start from
+  taking-ended e = sym (taking .is ∙ rw e)
 
-    module _ (match : Match) (e : ℕ) (found : some match ≡ matchBy first contents at (drop at text)) (ends : e ≡ endWithin contents text match) where
+  module _ (some-left : 0 < left) where
+    next : takenFor turns begins contents text start from
+        ≡ takenOr contents start (left - 1) (takenFor (left - 1) begins contents text start) (matchBy begins contents at (drop at text))
+    next = taking .is ∙ one-more begins contents text start at left some-left
+
+    pub taking-missing : none ≡ matchBy begins contents at (drop at text) → Nowhere ≡ takenFor turns begins contents text start from
+    taking-missing e = sym (next ∙ rw (← e))
+
+    module _ {match : Match} {e : ℕ} (found : some match ≡ matchBy begins contents at (drop at text)) (ends : e ≡ endWithin contents text match) where
       whole : end contents match ≡ e
       unfolding endWithin
-      whole = omega (arith, ends, match-inside first contents text at match (sym found))
+      whole = omega (arith, ends, match-inside begins contents text at match (sym found))
 
-      pub taken-here : start ≤ match .place → takenFor turns first contents text start at ≡ Here (match .place) (match .row) e (turns - 1)
+      pub taking-here : start ≤ match .place → Here (match .place) (match .row) e (left - 1) ≡ takenFor turns begins contents text start from
       unfolding isSwallowed
-      taken-here h = one-more ∙ rw (← found) (rw (le-ltb (match .place) start h, whole))
+      taking-here h = sym (next ∙ rw (← found) (rw (le-ltb (match .place) start h, whole)))
 
-      pub taken-passed : match .place < start → takenFor turns first contents text start at ≡ takenFor (turns - 1) first contents text start e
+      pub taking-passed : match .place < start → Taking begins contents text start from turns e (left - 1)
       unfolding isSwallowed
-      taken-passed h = one-more ∙ rw (← found) (rw (lt-ltb (match .place) start h, whole))
+      taking-passed h = record { is = next ∙ rw (← found) (rw (lt-ltb (match .place) start h, whole)) }

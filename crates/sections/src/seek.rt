@@ -32,13 +32,13 @@ pub fn longest_at(bytes: &[u8], offsets: &[u32], text: &[u8]) -> Found
 }
 
 // The same where the first byte is not ruled out.
-pub fn token_at(bytes: &[u8], offsets: &[u32], first: &[u32], text: &[u8]) -> Found
-    ensures { λ r. ⌜ foundId r ≡ rowBy (now (first .entry)) (strings (now (bytes .entry)) (now (offsets .entry))) (now (text .entry)) ⌝ }
+pub fn token_at(bytes: &[u8], offsets: &[u32], begins: &[u32], text: &[u8]) -> Found
+    ensures { λ r. ⌜ foundId r ≡ rowBy (now (begins .entry)) (strings (now (bytes .entry)) (now (offsets .entry))) (now (text .entry)) ⌝ }
 {
     if text.len() == 0 {
         return Found::Nothing;
     }
-    if !may_begin(first, text[0]) {
+    if !may_begin(begins, text[0]) {
         return Found::Nothing;
     }
     longest_at(bytes, offsets, text)
@@ -48,15 +48,15 @@ pub fn token_at(bytes: &[u8], offsets: &[u32], first: &[u32], text: &[u8]) -> Fo
 pub fn find_added_token(
     bytes: &[u8],
     offsets: &[u32],
-    first: &[u32],
+    begins: &[u32],
     text: &[u8],
     from: usize,
 ) -> Sought
-    ensures { λ r. ⌜ soughtMatch r ≡ matchBy (now (first .entry)) (strings (now (bytes .entry)) (now (offsets .entry))) from (drop from (now (text .entry))) ⌝ }
+    ensures { λ r. ⌜ soughtMatch r ≡ matchBy (now (begins .entry)) (strings (now (bytes .entry)) (now (offsets .entry))) from (drop from (now (text .entry))) ⌝ }
 {
     let mut place = from;
     while place < text.len() {
-        match token_at(bytes, offsets, first, &text[place..]) {
+        match token_at(bytes, offsets, begins, &text[place..]) {
             Found::At(row) => {
                 return Sought::Found { place, row };
             }

@@ -11,27 +11,26 @@ use crate::strips::token_end;
 use model::tables::number_at;
 use model::tables::string_count;
 ghost use mathlib.Core.Path.{_≡_};
-ghost use lib.ListN.{length};
 ghost use Rattle.model.specs.Model.{strings, tokenList};
 ghost use Rattle.sections.specs.inner.Walk.{takenFor, tokenItem, itemAt, nextItem, sectionsStart, partsStart};
 
 // The first match from `from` on, of at most `turns`, that does not begin before `start`. One that does is passed over.
-pub fn next_taken(
+fn next_taken(
     bytes: &[u8],
     offsets: &[u32],
-    first: &[u32],
+    begins: &[u32],
     text: &[u8],
     start: usize,
     from: usize,
     turns: usize,
 ) -> Taken
-    ensures { λ r. ⌜ r ≡ takenFor turns (now (first .entry)) (strings (now (bytes .entry)) (now (offsets .entry))) (now (text .entry)) start from ⌝ }
+    ensures { λ r. ⌜ r ≡ takenFor turns (now (begins .entry)) (strings (now (bytes .entry)) (now (offsets .entry))) (now (text .entry)) start from ⌝ }
 {
     let mut at = from;
     let mut left = turns;
     while 0 < left {
         left -= 1;
-        match find_added_token(bytes, offsets, first, text, at) {
+        match find_added_token(bytes, offsets, begins, text, at) {
             Sought::Missing => {
                 return Taken::Nowhere;
             }
@@ -53,7 +52,7 @@ pub fn next_taken(
 }
 
 // The token of `row`, which ends at `end`.
-pub fn token_item(
+fn token_item(
     ids: &[u32],
     rstrip: &[bool],
     afresh: bool,
@@ -89,7 +88,7 @@ pub fn token_item(
 }
 
 // The text from `start` on, up to the token that is taken or to its end; where that is nothing, the token.
-pub fn item_at(
+fn item_at(
     ids: &[u32],
     lstrip: &[bool],
     rstrip: &[bool],
@@ -142,12 +141,12 @@ pub fn next_item(
     ids: &[u32],
     lstrip: &[bool],
     rstrip: &[bool],
-    first: &[u32],
+    begins: &[u32],
     afresh: bool,
     text: &[u8],
     cursor: Cursor,
 ) -> Next
-    ensures { λ r. ⌜ r ≡ nextItem (tokenList (now (bytes .entry)) (now (offsets .entry)) (now (ids .entry)) (now (lstrip .entry)) (now (rstrip .entry))) (now (first .entry)) afresh (now (text .entry)) cursor ⌝ }
+    ensures { λ r. ⌜ r ≡ nextItem (tokenList (now (bytes .entry)) (now (offsets .entry)) (now (ids .entry)) (now (lstrip .entry)) (now (rstrip .entry))) (now (begins .entry)) afresh (now (text .entry)) cursor ⌝ }
 {
     match cursor {
         Cursor::Whole => {
@@ -169,10 +168,10 @@ pub fn next_item(
                 if turns == 0 {
                     return Next::Finished;
                 }
-                let taken = next_taken(bytes, offsets, first, text, start, start, turns);
+                let taken = next_taken(bytes, offsets, begins, text, start, start, turns);
                 return item_at(ids, lstrip, rstrip, afresh, text, start, opening, taken);
             }
-            let taken = next_taken(bytes, offsets, first, text, start, from, turns);
+            let taken = next_taken(bytes, offsets, begins, text, start, from, turns);
             item_at(ids, lstrip, rstrip, afresh, text, start, opening, taken)
         }
         Cursor::Held { end, row, turns } => token_item(ids, rstrip, afresh, text, end, row, turns),

@@ -22,9 +22,11 @@ use Rattle.units.specs.Kinds.{crossesAt, crossings, kindOf}
 use Rattle.units.specs.Units.{holdsPair, markCuts, byteBefore, punctuationCuts, cutBy, cut}
 use Rattle.units.specs.Adjacency.{adjacency, pairNoted}
 use Rattle.units.specs.Derived.{Place, placesWithin, placesIn, crossingPlaces, crossingOf, notedOf, placeWords, notedWords, placesOf, namedCrossings, noting}
+use Rattle.units.specs.Next.{nextUnit}
 use Rattle.units.specs.declared.WordSplit.{WordSplit}
 use Rattle.units.specs.declared.WordSplit.the-variants.{SpaceRuns, EveryMark, None}
 use Rattle.units.proofs.AdjacencyLaws.{Small, pair-noted}
+use Rattle.units.proofs.NextLaws.{next-agrees}
 use Rattle.units.proofs.NotingLaws.{crossings-by-place}
 
 -- ---- places that fit two words
@@ -136,3 +138,9 @@ cut-derived m e raw section h p =
     ap₂ (λ (a b : Bool). ltb 0 p && (a || b))
     (marks-derived (piecesOf m) (fit-accepted (m .pieceBytes) (m .pieceOffsets) e) (kindOf m) raw section p)
     (punctuation-derived (piecesOf m) (kindOf m) raw section h p)
+
+-- So the next unit is the model's.
+pub next-derived : (m : Model) → wrongPieceSizes (m .pieceBytes) (m .pieceOffsets) ≡ false → (raw : Bool) (section : List ℕ) → Small section → (from : ℕ)
+    → nextUnit (cutBy (kindOf m) (namedCrossings (piecesOf m) (noting (piecesOf m) (kindOf m) .noted) (noting (piecesOf m) (kindOf m) .count)) (pairNoted (adjacency (piecesOf m))) raw section) section from
+    ≡ nextUnit (cut m raw section) section from
+next-derived m e raw section h from = next-agrees _ (cut m raw section) (cut-derived m e raw section h) section from

@@ -9,7 +9,7 @@ use Rattle.model.specs.Model.{piece}
 use Rattle.model.specs.Answers.{zeros}
 use Rattle.model.specs.declared.Step.{Step}
 use Rattle.model.specs.declared.Metaspace.{Metaspace}
-use Rattle.units.specs.Kinds.{Crossing, crossesAt, crossingAt, crossings, wordSplit, isNone, rawPathOf}
+use Rattle.units.specs.Kinds.{Crossing, crossesAt, crossingAt, isNone, rawPathOf}
 use Rattle.units.specs.declared.WordSplit.{WordSplit}
 use Rattle.units.specs.declared.WordSplit.the-variants.{SpaceRuns, EveryMark, None}
 use Rattle.units.specs.declared.RawPath.{RawPath}

@@ -1,6 +1,7 @@
 // The byte-adjacency rows: 256 rows of four words, a bit for each pair of bytes.
 use model::tables::string_at;
 use model::tables::string_count;
+use utf8::bytes::wide;
 ghost use mathlib.Core.Path.{_≡_};
 ghost use Prim.Native.Nat.{ℕ};
 ghost use Rattle.utf8.specs.Lists.{neighbours};
@@ -12,13 +13,6 @@ fn clear(rows: &mut [u64; 1024])
     ensures { λ _. ⌜ now (rows .exit) ≡ noRows ⌝ }
 {
     *rows = [0u64; 1024];
-}
-
-// A byte as a place.
-fn wide(b: u8) -> usize
-    ensures { λ r. ⌜ r ≡ b ⌝ }
-{
-    b as usize
 }
 
 fn note_pair(x: u8, y: u8, rows: &mut [u64; 1024])

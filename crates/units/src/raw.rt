@@ -6,26 +6,14 @@ use crate::crossings::metaspace_splits;
 use crate::cut::divides;
 use model::Metaspace;
 use model::PrependScheme;
-use model::Span;
 use model::Step;
 use model::compare::equal;
 use model::mark::MARK;
-use model::tables::part;
-use model::tables::wide;
+use model::tables::string_of;
 ghost use mathlib.Core.Path.{_≡_};
 ghost use lib.ListN.{take};
-ghost use Rattle.model.specs.Model.{stepString};
 ghost use Rattle.units.specs.Kinds.{isPrependMark, isSpaceReplace, isPresent, prependOf, rawPathOf};
 ghost use Rattle.units.specs.Derived.{rawPathBy};
-
-// The string of the step bytes that a span names.
-fn string_of(step_bytes: &[u8], span: Span) -> &[u8]
-    ensures { λ r. ⌜ now r ≡ stepString (now («step_bytes» .entry)) span ⌝ }
-{
-    let start = wide(span.place);
-    let len = wide(span.len);
-    part(step_bytes, start, start + len)
-}
 
 fn is_prepend_mark(step_bytes: &[u8], step: Step) -> bool
     ensures { λ r. ⌜ r ≡ isPrependMark (now («step_bytes» .entry)) step ⌝ }

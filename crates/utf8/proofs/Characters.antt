@@ -6,12 +6,12 @@ use native.Mathlib.Omega.{arith}
 use mathlib.Core.Path.{_≡_, refl, sym, ap, ap₂, _∙_}
 use mathlib.Core.Bool.{Bool, true, false, cond}
 use mathlib.Core.Logic.{⊎-elim}
-use mathlib.Core.List.{List, [], _∷_, _++_, map, append-nil}
+use mathlib.Core.List.{List, [], _∷_, _++_, append-nil}
 use lib.ListN.{length, take, drop, getD, length-drop, take-append-drop}
 use lib.Seq.{take-at, drop-at, drop-drop}
 use Rattle.utf8.specs.Lists.{Range, within, all, join}
 use Rattle.utf8.specs.Chars.{tail, charForms, hasForm, charWidth, chars, codePoint}
-use Rattle.utf8.proofs.Tests.{either, and-left, and-right, and-both, within-in}
+use Rattle.utf8.proofs.Tests.{either, and-left, within-in}
 use Rattle.utf8.proofs.Lists.{by-length}
 use Rattle.utf8.proofs.Cut.{cutBy-step, cutBy-append, join-cutBy}
 use Rattle.utf8.proofs.Forms.{firstOf, beginsApart, widthAmong-le-length, widthAmong-le, widthAmong-take, widthAmong-append, widthAmong-lead, widthAmong-apart, widthAmong-keeps, widthAmong-inside, Bounds, widthAmong-bounds}
@@ -102,20 +102,6 @@ pub chars-next : (s : List ℕ) (i : ℕ) → i < length s
 chars-next s i h =
     chars-step (drop i s) (omega (arith, length-drop i s))
     ∙ ap (λ (l : List ℕ). take (max 1 (charWidth (drop i s))) (drop i s) ∷ chars l) (drop-drop (max 1 (charWidth (drop i s))) i s)
-
--- A byte that begins no character stands alone.
-pub chars-stray : (b : ℕ) (t : List ℕ) → charWidth (b ∷ t) ≡ 0 → chars (b ∷ t) ≡ (b ∷ []) ∷ chars t
-chars-stray b t h =
-    let one : max 1 (charWidth (b ∷ t)) ≡ 1 = omega arith in
-    chars-step (b ∷ t) (omega arith) ∙ ap (λ (n : ℕ). take n (b ∷ t) ∷ chars (drop n (b ∷ t))) one
-
--- UTF8-tails at the head are strays.
-pub chars-tails : (bs t : List ℕ) → all (within tail) bs ≡ true → chars (bs ++ t) ≡ map (λ (b : ℕ). b ∷ []) bs ++ chars t
-chars-tails [] t e = refl
-chars-tails (b ∷ bs) t e =
-    let here = and-both (and-left (within tail b) (all (within tail) bs) e) refl in
-    chars-stray b (bs ++ t) (charWidth-tail (b ∷ bs ++ t) here)
-    ∙ ap {B = List (List ℕ)} (λ cs. (b ∷ []) ∷ cs) (chars-tails bs t (and-right (within tail b) (all (within tail) bs) e))
 
 -- A text can be cut before what starts in no UTF8-tail.
 pub chars-append : (q r : List ℕ) → startsInTail r ≡ false → chars (q ++ r) ≡ chars q ++ chars r

@@ -3,7 +3,7 @@ use Prim.Native.Nat.{ℕ, zero, suc, _-_, _<_, max}
 use native.Mathlib.Omega.{arith}
 use native.Mathlib.Nat.{suc-ne-zero}
 use mathlib.Core.Path.{_≡_, refl, sym, ap, ap₂, _∙_}
-use mathlib.Core.Bool.{Bool, true, false, not, cond, _&&_}
+use mathlib.Core.Bool.{Bool, true, false, not, cond}
 use mathlib.Core.Logic.{⊎-elim}
 use mathlib.Core.List.{List, [], _∷_, _++_, map, append-assoc}
 use mathlib.Core.Option.{some, Option·none-ne-some, Option·some-injective}
@@ -15,8 +15,8 @@ use Rattle.utf8.specs.Lists.{isEmpty, all, find, join, joinMap, same, st
 use Rattle.utf8.specs.Chars.{tail, charForms, charWidth, chars, valid}
 use Rattle.utf8.proofs.Tests.{either, within-low, and-left, and-right, and-both, clash}
 use Rattle.utf8.proofs.Lists.{by-length}
-use Rattle.utf8.proofs.Characters.{startsInTail, char-starts, charWidth-lead, charWidth-le-length, char-tails, chars-nil, chars-step, chars-append}
-use Rattle.utf8.proofs.Valid.{starts-with-char, valid-append, valid-cut, chars-valid-append}
+use Rattle.utf8.proofs.Characters.{startsInTail, char-starts, charWidth-lead, charWidth-le-length, char-tails, chars-nil, chars-step}
+use Rattle.utf8.proofs.Valid.{starts-with-char}
 use Rattle.utf8.proofs.Starts.{not-empty, starts-front, same-refl, same-eq}
 use Rattle.utf8.proofs.Elements.{all-by-places}
 
@@ -130,21 +130,6 @@ begins-between ((b ∷ bytes) ∷ parts) (a ∷ x) y one clear e =
 -- A valid text that is not empty starts in no UTF8-tail.
 pub valid-starts : (t : List ℕ) → 0 < length t → valid t ≡ true → startsInTail t ≡ false
 valid-starts t pos v = char-starts t (starts-with-char t pos v)
-
--- A valid part of a valid text begins and ends between characters.
-module _ (x y z : List ℕ) (pos : 0 < length y) (v : valid y ≡ true) where
-  inside-starts : startsInTail (y ++ z) ≡ false
-  inside-starts = go y pos (valid-starts y pos v)
-    where
-      go : (y : List ℕ) → 0 < length y → startsInTail y ≡ false → startsInTail (y ++ z) ≡ false
-      go [] pos e = absurd (omega arith)
-      go (b ∷ y) pos e = e
-
-  pub valid-part : valid (x ++ (y ++ z)) ≡ (valid x && valid z)
-  valid-part = valid-cut x (y ++ z) inside-starts ∙ ap (λ (b : Bool). valid x && b) (valid-append y z v)
-
-  pub chars-part : chars (x ++ (y ++ z)) ≡ chars x ++ (chars y ++ chars z)
-  chars-part = chars-append x (y ++ z) inside-starts ∙ ap (λ (cs : List (List ℕ)). chars x ++ cs) (chars-valid-append y z v)
 
 -- No element of `chars` is empty.
 pub chars-some : (t : List ℕ) → all (λ (c : List ℕ). not (isEmpty c)) (chars t) ≡ true

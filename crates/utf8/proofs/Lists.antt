@@ -4,12 +4,11 @@ use native.Mathlib.Nat.{not-suc-le-zero}
 use native.Mathlib.Omega.{arith}
 use native.Mathlib.Numerals.{add-one}
 use mathlib.Core.Path.{_≡_, refl, sym, ap, _∙_}
-use mathlib.Core.Bool.{Bool, true, cond, _&&_, _||_, and-assoc}
+use mathlib.Core.Bool.{Bool, _&&_, _||_, and-assoc}
 use mathlib.Core.List.{List, [], _∷_, _++_, append-assoc}
 use lib.ListN.{length, take, drop, getD, length-drop}
 use lib.Seq.{take-all, drop-cons}
-use Rattle.utf8.specs.Lists.{all, any, takeWhile, lastOr, join}
-use Rattle.utf8.proofs.Tests.{and-left, and-right}
+use Rattle.utf8.specs.Lists.{all, any, lastOr, join}
 
 module _ {ℓ} {A : Type ℓ} where
   -- What holds of a list where it holds of every shorter one holds of all.
@@ -39,10 +38,3 @@ module _ {ℓ} {A : Type ℓ} where
   all-append test [] ys = refl
   all-append test (x ∷ xs) ys =
       ap (λ (b : Bool). test x && b) (all-append test xs ys) ∙ sym (and-assoc (test x) (all test xs) (all test ys))
-
-  -- Where all pass, the front that passes goes on in what follows.
-  pub takeWhile-append : (test : A → Bool) (xs ys : List A) → all test xs ≡ true → takeWhile test (xs ++ ys) ≡ xs ++ takeWhile test ys
-  takeWhile-append test [] ys e = refl
-  takeWhile-append test (x ∷ xs) ys e =
-      ap (λ (b : Bool). cond b (x ∷ takeWhile test (xs ++ ys)) []) (and-left (test x) (all test xs) e)
-      ∙ ap {B = List A} (λ l. x ∷ l) (takeWhile-append test xs ys (and-right (test x) (all test xs) e))

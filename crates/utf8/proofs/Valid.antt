@@ -12,8 +12,8 @@ use lib.Seq.{take-add, length-take-le, drop-at, drop-drop, take-append-le, drop-
 use Rattle.utf8.specs.Lists.{all, takeWhile, join}
 use Rattle.utf8.specs.Chars.{charWidth, chars, isChar, valid, longestValidPrefix}
 use Rattle.utf8.proofs.Tests.{either, clash}
-use Rattle.utf8.proofs.Lists.{join-append, all-append, takeWhile-append}
-use Rattle.utf8.proofs.Characters.{charWidth-le-length, charWidth-append, charWidth-take, charWidth-first, charWidth-front, chars-nil, chars-step, chars-append, join-chars, startsInTail, by-chars}
+use Rattle.utf8.proofs.Lists.{all-append}
+use Rattle.utf8.proofs.Characters.{charWidth-le-length, charWidth-append, charWidth-take, charWidth-first, charWidth-front, chars-nil, chars-step, chars-append, startsInTail, by-chars}
 
 -- The first element of `chars` is a character where one stands at the head.
 first-isChar : (t : List ℕ) → isChar (take (max 1 (charWidth t)) t) ≡ ltb 0 (charWidth t)
@@ -174,21 +174,6 @@ longest-is-longest = by-chars (λ (t : List ℕ). (n : ℕ) → valid (take n t)
             ∙ v in
             omega (arith, ih (n - w) rest, prefix-length t h, ap length parts, length-append (take w t) (take (n - w) (drop w t)))
 
--- What follows the longest valid prefix begins with no character.
-pub longest-stops : (t : List ℕ) → charWidth (drop (length (longestValidPrefix t)) t) ≡ 0
-longest-stops = by-chars (λ (t : List ℕ). charWidth (drop (length (longestValidPrefix t)) t) ≡ 0) stop step
-  where
-    stop : (t : List ℕ) → charWidth t ≡ 0 → charWidth (drop (length (longestValidPrefix t)) t) ≡ 0
-    stop t h = ap (λ (l : List ℕ). charWidth (drop (length l) t)) (prefix-stops t h) ∙ h
-
-    step : (t : List ℕ) → 0 < charWidth t
-        → charWidth (drop (length (longestValidPrefix (drop (charWidth t) t))) (drop (charWidth t) t)) ≡ 0
-        → charWidth (drop (length (longestValidPrefix t)) t) ≡ 0
-    step t h ih =
-        ap (λ (n : ℕ). charWidth (drop n t)) (prefix-length t h)
-        ∙ ap charWidth (sym (drop-drop (length (longestValidPrefix (drop (charWidth t) t))) (charWidth t) t))
-        ∙ ih
-
 -- After a valid text another begins anew.
 pub chars-valid-append : (p r : List ℕ) → valid p ≡ true → chars (p ++ r) ≡ chars p ++ chars r
 chars-valid-append p r = by-chars (λ (p : List ℕ). valid p ≡ true → chars (p ++ r) ≡ chars p ++ chars r) stop step p
@@ -218,14 +203,6 @@ module _ (p r : List ℕ) (v : valid p ≡ true) where
       ap (all isChar) (chars-valid-append p r v)
       ∙ all-append isChar (chars p) (chars r)
       ∙ ap (λ (b : Bool). b && all isChar (chars r)) v
-
-  pub prefix-append : longestValidPrefix (p ++ r) ≡ p ++ longestValidPrefix r
-  unfolding valid longestValidPrefix
-  prefix-append =
-      ap (λ (cs : List (List ℕ)). join (takeWhile isChar cs)) (chars-valid-append p r v)
-      ∙ ap join (takeWhile-append isChar (chars p) (chars r) v)
-      ∙ join-append (chars p) (takeWhile isChar (chars r))
-      ∙ ap (λ (l : List ℕ). l ++ join (takeWhile isChar (chars r))) (join-chars p)
 
 -- A text that is cut before no UTF8-tail is valid if both parts are.
 pub valid-cut : (q r : List ℕ) → startsInTail r ≡ false → valid (q ++ r) ≡ (valid q && valid r)

@@ -2,7 +2,7 @@
 ghost use mathlib.Core.Path.{_≡_};
 ghost use mathlib.Core.Bool.{cond};
 ghost use mathlib.Core.List.{_∷_};
-ghost use Prim.Native.Nat.{_+_, _*_, _-_, _≤_};
+ghost use Prim.Native.Nat.{_+_, _*_, _-_, _≤_, max};
 ghost use lib.ListN.{length, take, drop, replicate};
 ghost use Rattle.utf8.specs.Lists.{within};
 ghost use Rattle.utf8.specs.Chars.{tail, hasForm, charWidth, valid, longestValidPrefix, codePoint};
@@ -133,4 +133,15 @@ pub fn code_point(s: &[u8]) -> u32
     ensures { λ r. ⌜ r ≡ codePoint (take (charWidth (now (s .entry))) (now (s .entry))) ⌝ }
 {
     number_of(s, char_width(s))
+}
+
+// The width of the character at the head; a byte that begins none stands alone.
+pub fn char_step(text: &[u8]) -> usize
+    ensures { λ r. ⌜ r ≡ max 1 (charWidth (now (text .entry))) ⌝ }
+{
+    let w = char_width(text);
+    if w == 0 {
+        return 1;
+    }
+    w
 }

@@ -15,6 +15,7 @@ use Rattle.model.specs.declared.PrependScheme.the-variants.{Never, Always, Firs
 use Rattle.model.specs.declared.Metaspace.{Metaspace}
 use Rattle.model.specs.declared.Metaspace.the-variants.{Absent, Present}
 use Rattle.model.specs.Answers.{ScratchOutcome, refused}
+use Rattle.prepare.specs.Prepare.{PrepareOutcome}
 
 -- The number at k of the four of the step at i.
 unfoldable pub stepNumber : List ℕ → ℕ → ℕ → ℕ
@@ -65,3 +66,7 @@ answered wrong answer = cond wrong (refused 1 0) answer
 -- The same of a call with a result buffer and scratch; a 1 leaves them as they were.
 unfoldable pub answeredScratch : Bool → List ℕ → List ℕ → List ℕ → ScratchOutcome → ScratchOutcome
 answeredScratch wrong out a b outcome = cond wrong (record { answer = refused 1 0; out = out; scratchA = a; scratchB = b }) outcome
+
+-- The same of prepare.
+unfoldable pub answeredPrepare : Bool → List ℕ → List ℕ → PrepareOutcome → PrepareOutcome
+answeredPrepare wrong adjacency index outcome = cond wrong (record { answer = refused 1 0; adjacency = adjacency; index = index }) outcome

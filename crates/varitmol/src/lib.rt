@@ -9,7 +9,8 @@ ghost use Rattle.model.specs.Answers.{ScratchOutcome};
 ghost use Rattle.model.specs.Check.{checkOutcome};
 ghost use Rattle.model.specs.Model.{modelOf, tokenList};
 ghost use Rattle.normalise.specs.Normalise.{normaliseOutcome};
-ghost use Rattle.varitmol.specs.Numbers.{stepsFrom, metaspaceFrom, wrongNumbers, answered, answeredScratch};
+ghost use Rattle.prepare.specs.Prepare.{PrepareOutcome, prepareOutcome};
+ghost use Rattle.varitmol.specs.Numbers.{stepsFrom, metaspaceFrom, wrongNumbers, answered, answeredScratch, answeredPrepare};
 
 mod numbers;
 
@@ -136,5 +137,67 @@ pub extern "C" fn varitmol_normalise(
         out,
         scratch_a,
         scratch_b,
+    )
+}
+
+// `prepare::prepare`.
+#[no_mangle]
+pub extern "C" fn varitmol_prepare(
+    piece_bytes: &[u8],
+    piece_offsets: &[u32],
+    lookup: &[u32],
+    fallback: &[u32],
+    left: &[u32],
+    right: &[u32],
+    result: &[u32],
+    rank: &[u32],
+    first_bytes: &[u8],
+    first_offsets: &[u32],
+    first_ids: &[u32],
+    first_lstrip: &[bool],
+    first_rstrip: &[bool],
+    second_bytes: &[u8],
+    second_offsets: &[u32],
+    second_ids: &[u32],
+    second_lstrip: &[bool],
+    second_rstrip: &[bool],
+    step_bytes: &[u8],
+    step_kinds: &[u8],
+    step_spans: &[u32],
+    metaspace: u8,
+    split: u8,
+    adjacency: &mut [u64],
+    index: &mut [u32],
+) -> Answer
+    ensures { λ r. ⌜ _≡_ {A = PrepareOutcome} (record { answer = r; adjacency = now (adjacency .exit); index = now (index .exit) }) (answeredPrepare (wrongNumbers (now («step_kinds» .entry)) (now («step_spans» .entry)) metaspace split) (now (adjacency .entry)) (now (index .entry)) (prepareOutcome (modelOf (now («piece_bytes» .entry)) (now («piece_offsets» .entry)) (now (lookup .entry)) (now (fallback .entry)) (now (left .entry)) (now (right .entry)) (now (result .entry)) (now (rank .entry)) (tokenList (now («first_bytes» .entry)) (now («first_offsets» .entry)) (now («first_ids» .entry)) (now («first_lstrip» .entry)) (now («first_rstrip» .entry))) (tokenList (now («second_bytes» .entry)) (now («second_offsets» .entry)) (now («second_ids» .entry)) (now («second_lstrip» .entry)) (now («second_rstrip» .entry))) (now («step_bytes» .entry)) (stepsFrom (now («step_kinds» .entry)) (now («step_spans» .entry))) (length (now («step_kinds» .entry))) (metaspaceFrom metaspace split)) (now (adjacency .entry)) (now (index .entry)))) ⌝ }
+{
+    if wrong_numbers(step_kinds, step_spans, metaspace, split) {
+        return Answer::refused(model::WRONG_SIZE, 0);
+    }
+    prepare::prepare(
+        piece_bytes,
+        piece_offsets,
+        lookup,
+        fallback,
+        left,
+        right,
+        result,
+        rank,
+        first_bytes,
+        first_offsets,
+        first_ids,
+        first_lstrip,
+        first_rstrip,
+        second_bytes,
+        second_offsets,
+        second_ids,
+        second_lstrip,
+        second_rstrip,
+        step_bytes,
+        steps_from(step_kinds, step_spans),
+        step_kinds.len(),
+        metaspace_from(metaspace, split),
+        adjacency,
+        index,
     )
 }

@@ -23,29 +23,26 @@ lent s =
       scratchB = s .args .scratch-b .now;
     }
 
--- the way back to the start from each point that needs it
-abbrev long : tie.Then1 → tie.Start
-long t = t .before .before .before .before .before .before .before .before .before .before .before .before .before .before .before .before .before .before .before .before .before .before .before .before
-
-abbrev checked : tie.Else1 → tie.Start
-checked e = e .before .before .before .before .before .before .before .before .before .before .before .before .before .before .before .before .before .before .before .before .before .before .before .before
+-- the way back to the start
+abbrev start : tie.After-slice-known3 → tie.Start
+start a = a .before .before .before .before .before .before .before .before .before .before .before .before .before .before .before .before .before .before .before .before .before .before .before
 
 refused-requires : tie.Need-refused-requires
 refused-requires c κs = search needs
 
 returns : tie.Need-returns
-returns c = long-text (lent (long (c .before))) _ (c .refused .ensures) (c .before .if1 .taken)
+returns c = long-text (lent (start (c .before .before))) _ (c .refused .ensures) (c .before .if1 .taken)
 
 check-requires : tie.Need-check-requires
 check-requires c κs = search needs
 
 returns-2 : tie.Need-returns-2
-returns-2 c = bad-model (lent (checked (c .before .before .before))) _ (c .before .before .check .ensures) (c .before .before .before .if1 .left) (c .if2 .taken)
+returns-2 c = bad-model (lent (start (c .before .before .before .before))) _ (c .before .before .check .ensures) (c .before .before .before .if1 .left) (c .if2 .taken)
 
 normalise-checked-requires : tie.Need-normalise-checked-requires
 normalise-checked-requires c κs =
     let e = c .before .before .before .before .before .before in
-    sym (number-checked (lent (checked e) .model) _ (c .before .before .before .before .before .check .ensures)) ∙ c .before .before .before .if2 .left
+    sym (number-checked (lent (start (e .before)) .model) _ (c .before .before .before .before .before .check .ensures)) ∙ c .before .before .before .if2 .left
 
 same-length : tie.Need-same-length
 same-length c = search needs

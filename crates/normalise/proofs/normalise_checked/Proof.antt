@@ -22,12 +22,9 @@ lent s =
       scratchB = s .args .scratch-b .now;
     }
 
--- the way back to the start from each point that needs it
-abbrev long : tie.Then1 → tie.Start
-long t = t .before .before .before .before .before .before .before .before .before .before .before .before .before .before .before .before .before .before .before .before .before .before .before .before
-
-abbrev sized : tie.Else1 → tie.Start
-sized e = e .before .before .before .before .before .before .before .before .before .before .before .before .before .before .before .before .before .before .before .before .before .before .before .before
+-- the way back to the start
+abbrev start : tie.After-slice-known3 → tie.Start
+start a = a .before .before .before .before .before .before .before .before .before .before .before .before .before .before .before .before .before .before .before .before .before .before .before
 
 -- the way back to where the text was found valid
 abbrev valid-text : tie.After-slice-known6 → tie.Else2
@@ -37,7 +34,7 @@ refused-requires : tie.Need-refused-requires
 refused-requires c κs = search needs
 
 returns : tie.Need-returns
-returns c = long-text (lent (long (c .before))) _ (c .refused .ensures) (c .before .if1 .taken)
+returns c = long-text (lent (start (c .before .before))) _ (c .refused .ensures) (c .before .if1 .taken)
 
 valid-prefix-requires : tie.Need-valid-prefix-requires
 valid-prefix-requires c κs = search needs
@@ -48,7 +45,7 @@ refused-requires-2 c κs = search needs
 returns-2 : tie.Need-returns-2
 returns-2 c =
     let e = c .before .before .before in
-    bad-text (lent (sized e)) _ _ (c .refused2 .ensures) (c .before .before .valid-prefix .ensures) (e .if1 .left) (sized e .pre) (c .before .if2 .taken)
+    bad-text (lent (start (e .before))) _ _ (c .refused2 .ensures) (c .before .before .valid-prefix .ensures) (e .if1 .left) (start (e .before) .pre) (c .before .if2 .taken)
 
 normalise-text-requires : tie.Need-normalise-text-requires
 normalise-text-requires c κs = search needs
@@ -68,7 +65,7 @@ returns-3 c =
     let v = valid-text c in
     let e = v .before .before in
     c .before .before .before .before .before .before .normalise-text .ensures
-    ∙ sym (good-text (lent (sized e)) _ (v .before .valid-prefix .ensures) (e .if1 .left) (sized e .pre) (v .if2 .left))
+    ∙ sym (good-text (lent (start (e .before))) _ (v .before .valid-prefix .ensures) (e .if1 .left) (start (e .before) .pre) (v .if2 .left))
 
 pub normalise-checked-spec : {M : Type 1} → statement M
 normalise-checked-spec =

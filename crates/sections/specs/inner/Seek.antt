@@ -29,7 +29,7 @@ noteFirsts (c ∷ contents) row = noteFirsts contents (noteFirst c row)
 
 -- Such a row does not rule the byte out; of bytes past its end it says nothing.
 unfoldable pub mayBegin : List ℕ → ℕ → Bool
-mayBegin first b = not (eqb (getD first b 1) 0)
+mayBegin begins b = not (eqb (getD begins b 1) 0)
 
 abbrev pub rowIn : Option (ℕ × List ℕ) → Option ℕ
 rowIn none = none
@@ -41,8 +41,8 @@ rowAt contents text = rowIn (longestAt contents text)
 
 -- The same where the first byte is not ruled out.
 abbrev pub rowBy : List ℕ → List (List ℕ) → List ℕ → Option ℕ
-rowBy first contents [] = none
-rowBy first contents (b ∷ bytes) = cond (mayBegin first b) (rowAt contents (b ∷ bytes)) none
+rowBy begins contents [] = none
+rowBy begins contents (b ∷ bytes) = cond (mayBegin begins b) (rowAt contents (b ∷ bytes)) none
 
 -- the match at the place, or else the other
 abbrev pub placed : ℕ → Option ℕ → Option Match → Option Match
@@ -51,9 +51,9 @@ placed place (some row) other = some (record { place = place; row = row })
 
 -- The leftmost match that begins with a byte that is not ruled out; place is that of the text's first byte.
 abbrev pub matchBy : List ℕ → List (List ℕ) → ℕ → List ℕ → Option Match
-matchBy first contents place [] = none
-matchBy first contents place (b ∷ bytes) =
-    let later = matchBy first contents (suc place) bytes in placed place (rowBy first contents (b ∷ bytes)) later
+matchBy begins contents place [] = none
+matchBy begins contents place (b ∷ bytes) =
+    let later = matchBy begins contents (suc place) bytes in placed place (rowBy begins contents (b ∷ bytes)) later
 
 -- What the answer of a search says.
 abbrev pub soughtMatch : Sought → Option Match

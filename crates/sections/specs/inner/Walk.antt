@@ -27,9 +27,9 @@ takenOr contents start turns goOn (some match) =
 
 -- The first of as many matches as turns say, from a place on, that is not swallowed, and the turns that are left then.
 abbrev pub takenFor : ℕ → List ℕ → List (List ℕ) → List ℕ → ℕ → ℕ → Taken
-takenFor zero first contents text start from = Nowhere
-takenFor (suc turns) first contents text start from =
-    takenOr contents start turns (takenFor turns first contents text start) (matchBy first contents from (drop from text))
+takenFor zero begins contents text start from = Nowhere
+takenFor (suc turns) begins contents text start from =
+    takenOr contents start turns (takenFor turns begins contents text start) (matchBy begins contents from (drop from text))
 
 -- The token of a row that ends at the place. A search afresh goes on where the next section begins, the other where the token ends.
 unfoldable pub tokenItem : List ℕ → List Bool → Bool → List ℕ → ℕ → ℕ → ℕ → Next
@@ -46,12 +46,12 @@ itemAt ids lstrip rstrip afresh text start opening (Here place row e turns) =
 
 -- The item that comes next.
 unfoldable pub nextItem : TokenList → List ℕ → Bool → List ℕ → Cursor → Next
-nextItem t first afresh text Whole = Plain 0 (length text) true Done
-nextItem t first afresh text (Seek start from turns opening) =
+nextItem t begins afresh text Whole = Plain 0 (length text) true Done
+nextItem t begins afresh text (Seek start from turns opening) =
     cond (afresh && eqb turns 0) Finished
-    (itemAt (t .ids) (t .lstrip) (t .rstrip) afresh text start opening (takenFor turns first (contents t) text start (cond afresh start from)))
-nextItem t first afresh text (Held e row turns) = tokenItem (t .ids) (t .rstrip) afresh text e row turns
-nextItem t first afresh text Done = Finished
+    (itemAt (t .ids) (t .lstrip) (t .rstrip) afresh text start opening (takenFor turns begins (contents t) text start (cond afresh start from)))
+nextItem t begins afresh text (Held e row turns) = tokenItem (t .ids) (t .rstrip) afresh text e row turns
+nextItem t begins afresh text Done = Finished
 
 -- Where the walk through a text's sections begins; rule 7.4 decides by whether there are tokens.
 unfoldable pub sectionsStart : List ℕ → List ℕ → Cursor

@@ -15,6 +15,10 @@ Inv-loop a b i₀ i = (i ≤ length a) × (i ≤ length b) × (byteOrder a b ≡
 abbrev μ-loop : tie.MeasureT-loop
 μ-loop a b i₀ i = length a - i
 
+-- the way back to the start
+abbrev start : tie.Else1 Inv-loop μ-loop → tie.Start Inv-loop μ-loop
+start a = a .before .before .before
+
 loop-holds : tie.Need-loop-holds Inv-loop μ-loop
 loop-holds c = (search needs, search needs, refl)
 
@@ -33,7 +37,7 @@ shared-slice-read-if2-2 c = search needs
 returns-2 : tie.Need-returns-2 Inv-loop μ-loop
 returns-2 c =
     let l = c .before .before .before .before .before .loop in
-    let st = c .before .before .before .before .before .before .args in
+    let st = start (c .before .before .before) .args in
     sym (l .inv .2 ∙ order-less (st .a .now) (st .b .now) (l .i) (search needs) (search needs) (search needs))
 
 shared-slice-read-if3 : tie.Need-shared-slice-read-if3 Inv-loop μ-loop
@@ -45,7 +49,7 @@ shared-slice-read-if3-2 c = search needs
 returns-3 : tie.Need-returns-3 Inv-loop μ-loop
 returns-3 c =
     let l = c .before .before .before .before .before .before .before .before .loop in
-    let st = c .before .before .before .before .before .before .before .before .before .args in
+    let st = start (c .before .before .before .before .before .before) .args in
     sym (l .inv .2 ∙ order-greater (st .a .now) (st .b .now) (l .i) (search needs) (search needs) (search needs))
 
 add-i : tie.Need-add-i Inv-loop μ-loop
@@ -57,7 +61,7 @@ loop-less c = search needs
 loop-again : tie.Need-loop-again Inv-loop μ-loop
 loop-again c =
     let l = c .before .before .before .before .before .before .before .before .loop in
-    let st = c .before .before .before .before .before .before .before .before .before .args in
+    let st = start (c .before .before .before .before .before .before) .args in
     (search needs, search needs, l .inv .2 ∙ order-next (st .a .now) (st .b .now) (l .i) (search needs) (search needs) (search needs) (search needs))
 
 returns-4 : tie.Need-returns-4 Inv-loop μ-loop

@@ -13,6 +13,10 @@ use Rattle.model.proofs.CompleteLaws.{none-missing}
 use Rattle.model.proofs.lookup.bad_lookup.Statement.{statement}
 use Rattle.model.proofs.lookup.bad_lookup.Tie as tie
 
+-- the way back to the start
+abbrev start : tie.After-names-no-piece → tie.Start
+start a = a .before .before .before .before
+
 abbrev pieces : tie.Start → List (List ℕ)
 pieces s = strings (s .args .piece-bytes .now) (s .args .piece-offsets .now)
 
@@ -37,7 +41,7 @@ names-no-piece-requires c κs = search needs
 returns : tie.Need-returns
 unfolding badLookup
 returns c =
-    let s = c .before .before .before .before .before in
+    let s = start (c .before) in
     let unnamed : any (namesNoPiece (pieces s)) (s .args .lookup .now) ≡ true = sym (c .before .names-no-piece .ensures) ∙ c .if1 .taken in
     rw unnamed
 
@@ -47,7 +51,7 @@ lookup-ascends-requires c κs = search needs
 returns-2 : tie.Need-returns-2
 unfolding badLookup
 returns-2 c =
-    let s = c .before .before .before .before .before .before .before in
+    let s = start (c .before .before .before) in
     let falls : lookupAscends (pieces s) (s .args .lookup .now) ≡ false = sym (c .before .lookup-ascends .ensures) ∙ not-true _ (c .if2 .taken) in
     rw (named (c .before .before), falls)
 
@@ -59,7 +63,7 @@ long-entries-requires c κs = search needs
 
 piece-missing-requires : tie.Need-piece-missing-requires
 piece-missing-requires c κs =
-    let s = c .before .before .before .before .before .before .before .before .before in
+    let s = start (c .before .before .before .before .before) in
     (ordered (c .before .before), if-equal _ _ _ (λ e. none-missing (pieces s) (s .args .lookup .now) (named (c .before .before .before .before)) (ordered (c .before .before)) (sym (c .before .long-pieces .ensures) ∙ e ∙ c .long-entries .ensures)))
 
 returns-3 : tie.Need-returns-3

@@ -22,6 +22,10 @@ Inv-loop piece-bytes piece-offsets lookup i₀ n₀ i n = (i ≤ length lookup) 
 abbrev μ-loop : tie.MeasureT-loop
 μ-loop piece-bytes piece-offsets lookup i₀ n₀ i n = length lookup - i
 
+-- the way back to the start
+abbrev start : tie.At-loop Inv-loop μ-loop → tie.Start Inv-loop μ-loop
+start a = a .before .before .before .before
+
 loop-holds : tie.Need-loop-holds Inv-loop μ-loop
 loop-holds c =
     let st = c .before .before .before .args in
@@ -51,7 +55,7 @@ loop-less c = search needs
 loop-again : tie.Need-loop-again Inv-loop μ-loop
 loop-again c =
     let l = c .before .before .before .before .before .loop in
-    let st = c .before .before .before .before .before .before .before .before .before .args in
+    let st = start (c .before .before .before .before .before) .args in
     let at = test (st .piece-bytes .now) (st .piece-offsets .now) in
     (search needs, search needs, sym (tally-found at (st .lookup .now) (l .i) (l .n) 0 (search needs) (sym (c .before .piece-long .ensures ∙ ap at (c .before .before .wide .ensures .0)) ∙ c .if1 .taken)) ∙ l .inv .2)
 
@@ -64,14 +68,14 @@ loop-less-2 c = search needs
 loop-again-2 : tie.Need-loop-again-2 Inv-loop μ-loop
 loop-again-2 c =
     let l = c .before .before .before .before .before .loop in
-    let st = c .before .before .before .before .before .before .before .before .before .args in
+    let st = start (c .before .before .before .before .before) .args in
     let at = test (st .piece-bytes .now) (st .piece-offsets .now) in
     (search needs, search needs, sym (tally-next at (st .lookup .now) (l .i) (l .n) 0 (search needs) (sym (c .before .piece-long .ensures ∙ ap at (c .before .before .wide .ensures .0)) ∙ c .if1 .left)) ∙ l .inv .2)
 
 returns : tie.Need-returns Inv-loop μ-loop
 returns c =
     let l = c .before .loop in
-    let st = c .before .before .before .before .before .args in
+    let st = start (c .before) .args in
     sym (tally-ended (test (st .piece-bytes .now) (st .piece-offsets .now)) (st .lookup .now) (l .i) (l .n) (search needs)) ∙ l .inv .2
 
 pub long-entries-spec : {M : Type 1} → statement M

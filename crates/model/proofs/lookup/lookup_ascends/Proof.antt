@@ -16,6 +16,10 @@ Inv-loop piece-bytes piece-offsets lookup i₀ i = (i ≤ length lookup - 1) × 
 abbrev μ-loop : tie.MeasureT-loop
 μ-loop piece-bytes piece-offsets lookup i₀ i = length lookup - i
 
+-- the way back to the start
+abbrev start : tie.At-loop Inv-loop μ-loop → tie.Start Inv-loop μ-loop
+start a = a .before .before .before .before
+
 loop-holds : tie.Need-loop-holds Inv-loop μ-loop
 loop-holds c =
     let st = c .before .before .before .args in
@@ -45,7 +49,7 @@ piece-before-requires c κs = search needs
 returns : tie.Need-returns Inv-loop μ-loop
 returns c =
     let l = c .before .before .before .before .before .loop in
-    let st = c .before .before .before .before .before .before .before .before .before .args in
+    let st = start (c .before .before .before .before .before) .args in
     sym (l .inv .1 ∙ ascend-broken (strings (st .piece-bytes .now) (st .piece-offsets .now)) (st .lookup .now) (l .i) (search needs) (sym (c .before .piece-before .ensures) ∙ not-true _ (c .if1 .taken)))
 
 loop-less : tie.Need-loop-less Inv-loop μ-loop
@@ -54,13 +58,13 @@ loop-less c = search needs
 loop-again : tie.Need-loop-again Inv-loop μ-loop
 loop-again c =
     let l = c .before .before .before .before .before .loop in
-    let st = c .before .before .before .before .before .before .before .before .before .args in
+    let st = start (c .before .before .before .before .before) .args in
     (search needs, l .inv .1 ∙ ascend-next (strings (st .piece-bytes .now) (st .piece-offsets .now)) (st .lookup .now) (l .i) (search needs) (sym (c .before .piece-before .ensures) ∙ not-false _ (c .if1 .left)))
 
 returns-2 : tie.Need-returns-2 Inv-loop μ-loop
 returns-2 c =
     let l = c .before .loop in
-    let st = c .before .before .before .before .before .args in
+    let st = start (c .before) .args in
     sym (l .inv .1 ∙ ascend-ended (strings (st .piece-bytes .now) (st .piece-offsets .now)) (st .lookup .now) (l .i) (search needs))
 
 pub lookup-ascends-spec : {M : Type 1} → statement M

@@ -17,6 +17,10 @@ Inv-loop piece-bytes piece-offsets lookup i₀ i = (i ≤ length lookup) × (any
 abbrev μ-loop : tie.MeasureT-loop
 μ-loop piece-bytes piece-offsets lookup i₀ i = length lookup - i
 
+-- the way back to the start
+abbrev start : tie.At-loop Inv-loop μ-loop → tie.Start Inv-loop μ-loop
+start a = a .before .before .before .before
+
 loop-holds : tie.Need-loop-holds Inv-loop μ-loop
 loop-holds c = (search needs, refl)
 
@@ -35,7 +39,7 @@ piece-empty-requires c κs = search needs
 returns : tie.Need-returns Inv-loop μ-loop
 returns c =
     let l = c .before .before .before .before .before .loop in
-    let st = c .before .before .before .before .before .before .before .before .before .args in
+    let st = start (c .before .before .before .before .before) .args in
     let pieces = strings (st .piece-bytes .now) (st .piece-offsets .now) in
     sym (l .inv .1 ∙ any-found (namesNoPiece pieces) (st .lookup .now) (l .i) 0 (search needs) (entry-names pieces _ (c .before .before .wide .ensures .0) (c .before .piece-empty .ensures) (c .if1 .taken)))
 
@@ -48,14 +52,14 @@ loop-less c = search needs
 loop-again : tie.Need-loop-again Inv-loop μ-loop
 loop-again c =
     let l = c .before .before .before .before .before .loop in
-    let st = c .before .before .before .before .before .before .before .before .before .args in
+    let st = start (c .before .before .before .before .before) .args in
     let pieces = strings (st .piece-bytes .now) (st .piece-offsets .now) in
     (search needs, l .inv .1 ∙ any-next (namesNoPiece pieces) (st .lookup .now) (l .i) 0 (search needs) (entry-names pieces _ (c .before .before .wide .ensures .0) (c .before .piece-empty .ensures) (c .if1 .left)))
 
 returns-2 : tie.Need-returns-2 Inv-loop μ-loop
 returns-2 c =
     let l = c .before .loop in
-    let st = c .before .before .before .before .before .args in
+    let st = start (c .before) .args in
     sym (l .inv .1 ∙ any-ended (namesNoPiece (strings (st .piece-bytes .now) (st .piece-offsets .now))) (st .lookup .now) (l .i) (search needs))
 
 pub names-no-piece-spec : {M : Type 1} → statement M

@@ -16,6 +16,14 @@ Inv-loop left right i₀ i = (i ≤ length left - 1) × (rowsAscend left right �
 abbrev μ-loop : tie.MeasureT-loop
 μ-loop left right i₀ i = length left - i
 
+-- the way back to the start
+abbrev start : tie.At-loop Inv-loop μ-loop → tie.Start Inv-loop μ-loop
+start a = a .before .before .before
+
+-- the way back to the loop from inside a turn
+abbrev loop : tie.Else1 Inv-loop μ-loop → tie.At-loop Inv-loop μ-loop
+loop a = a .before .before
+
 loop-holds : tie.Need-loop-holds Inv-loop μ-loop
 loop-holds c =
     let st = c .before .before .args in
@@ -30,7 +38,7 @@ add-next c = search needs
 returns : tie.Need-returns Inv-loop μ-loop
 returns c =
     let l = c .before .before .loop in
-    let st = c .before .before .before .before .before .args in
+    let st = start (c .before .before) .args in
     sym (l .inv .1 ∙ ascend-ended (st .left .now) (st .right .now) (l .i) (search needs))
 
 mul-pair-order : tie.Need-mul-pair-order Inv-loop μ-loop
@@ -65,8 +73,8 @@ is-less-requires c κs = search needs
 
 returns-2 : tie.Need-returns-2 Inv-loop μ-loop
 returns-2 c =
-    let l = c .before .before .before .before .before .before .before .before .before .loop in
-    let st = c .before .before .before .before .before .before .before .before .before .before .before .before .args in
+    let l = loop (c .before .before .before .before .before .before .before) .loop in
+    let st = start (loop (c .before .before .before .before .before .before .before)) .args in
     sym (l .inv .1 ∙ ascend-broken (st .left .now) (st .right .now) (l .i) (search needs) (search needs) (ap isLess (sym (c .before .before .pair-order .ensures)) ∙ sym (c .before .is-less .ensures) ∙ not-true _ (c .if2 .taken)))
 
 loop-less : tie.Need-loop-less Inv-loop μ-loop
@@ -74,14 +82,14 @@ loop-less c = search needs
 
 loop-again : tie.Need-loop-again Inv-loop μ-loop
 loop-again c =
-    let l = c .before .before .before .before .before .before .before .before .before .loop in
-    let st = c .before .before .before .before .before .before .before .before .before .before .before .before .args in
+    let l = loop (c .before .before .before .before .before .before .before) .loop in
+    let st = start (loop (c .before .before .before .before .before .before .before)) .args in
     (search needs, l .inv .1 ∙ ascend-next (st .left .now) (st .right .now) (l .i) (search needs) (search needs) (ap isLess (sym (c .before .before .pair-order .ensures)) ∙ sym (c .before .is-less .ensures) ∙ not-false _ (c .if2 .left)))
 
 returns-3 : tie.Need-returns-3 Inv-loop μ-loop
 returns-3 c =
     let l = c .before .loop in
-    let st = c .before .before .before .before .args in
+    let st = start (c .before) .args in
     sym (l .inv .1 ∙ ascend-ended (st .left .now) (st .right .now) (l .i) (search needs))
 
 pub rows-ascend-spec : {M : Type 1} → statement M

@@ -16,19 +16,23 @@ Inv-loop piece-bytes piece-offsets left right result i₀ i = (i ≤ length left
 abbrev μ-loop : tie.MeasureT-loop
 μ-loop piece-bytes piece-offsets left right result i₀ i = length left - i
 
+-- the way back to the start
+abbrev start : tie.At-loop Inv-loop μ-loop → tie.Start Inv-loop μ-loop
+start a = a .before .before .before .before .before .before
+
 loop-holds : tie.Need-loop-holds Inv-loop μ-loop
 loop-holds c = (search needs, search join-start)
 
 returns : tie.Need-returns Inv-loop μ-loop
 returns c =
     let l = c .before .before .loop in
-    let st = c .before .before .before .before .before .before .before .before .args in
+    let st = start (c .before .before) .args in
     sym (l .inv .1 ∙ join-ended (strings (st .piece-bytes .now) (st .piece-offsets .now)) (st .left .now) (st .right .now) (st .result .now) (l .i) (search needs))
 
 returns-2 : tie.Need-returns-2 Inv-loop μ-loop
 returns-2 c =
     let l = c .before .before .before .loop in
-    let st = c .before .before .before .before .before .before .before .before .before .args in
+    let st = start (c .before .before .before) .args in
     sym (l .inv .1 ∙ join-ended (strings (st .piece-bytes .now) (st .piece-offsets .now)) (st .left .now) (st .right .now) (st .result .now) (l .i) (search needs))
 
 mul-row-joins : tie.Need-mul-row-joins Inv-loop μ-loop
@@ -55,7 +59,7 @@ row-joins-requires c κs = search needs
 returns-3 : tie.Need-returns-3 Inv-loop μ-loop
 returns-3 c =
     let l = c .before .before .before .before .before .before .before .before .loop in
-    let st = c .before .before .before .before .before .before .before .before .before .before .before .before .before .before .args in
+    let st = start (c .before .before .before .before .before .before .before .before) .args in
     sym (l .inv .1 ∙ join-broken (strings (st .piece-bytes .now) (st .piece-offsets .now)) (st .left .now) (st .right .now) (st .result .now) (l .i) (search needs) (search needs) (search needs) (sym (c .before .row-joins .ensures) ∙ not-true _ (c .if3 .taken)))
 
 add-i : tie.Need-add-i Inv-loop μ-loop
@@ -67,13 +71,13 @@ loop-less c = search needs
 loop-again : tie.Need-loop-again Inv-loop μ-loop
 loop-again c =
     let l = c .before .before .before .before .before .before .before .before .loop in
-    let st = c .before .before .before .before .before .before .before .before .before .before .before .before .before .before .args in
+    let st = start (c .before .before .before .before .before .before .before .before) .args in
     (search needs, l .inv .1 ∙ join-next (strings (st .piece-bytes .now) (st .piece-offsets .now)) (st .left .now) (st .right .now) (st .result .now) (l .i) (search needs) (search needs) (search needs) (sym (c .before .row-joins .ensures) ∙ not-false _ (c .if3 .left)))
 
 returns-4 : tie.Need-returns-4 Inv-loop μ-loop
 returns-4 c =
     let l = c .before .loop in
-    let st = c .before .before .before .before .before .before .before .args in
+    let st = start (c .before) .args in
     sym (l .inv .1 ∙ join-ended (strings (st .piece-bytes .now) (st .piece-offsets .now)) (st .left .now) (st .right .now) (st .result .now) (l .i) (search needs))
 
 pub rows-join-spec : {M : Type 1} → statement M

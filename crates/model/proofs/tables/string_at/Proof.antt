@@ -5,12 +5,16 @@ use Rattle.model.proofs.StringLaws.{string-is, string-past}
 use Rattle.model.proofs.tables.string_at.Statement.{statement}
 use Rattle.model.proofs.tables.string_at.Tie as tie
 
+-- the way back to the start
+abbrev start : tie.After-shared-slice-known2 → tie.Start
+start a = a .before .before
+
 slice-aggregate-result : tie.Need-slice-aggregate-result
 slice-aggregate-result c = search needs
 
 returns : tie.Need-returns
 returns c =
-    let st = c .before .before .before .before .args in
+    let st = start (c .before .before) .args in
     sym (string-past (st .bytes .now) (st .offsets .now) (st .i) (search needs))
 
 add-next : tie.Need-add-next
@@ -21,7 +25,7 @@ slice-aggregate-result-2 c = search needs
 
 returns-2 : tie.Need-returns-2
 returns-2 c =
-    let st = c .before .before .before .before .before .args in
+    let st = start (c .before .before .before) .args in
     sym (string-past (st .bytes .now) (st .offsets .now) (st .i) (search needs))
 
 mul-wide : tie.Need-mul-wide
@@ -47,7 +51,7 @@ part-requires c κs = search needs
 
 returns-3 : tie.Need-returns-3
 returns-3 c =
-    let st = c .before .before .before .before .before .before .before .before .before .args in
+    let st = start (c .before .before .before .before .before .before .before) .args in
     cc (string-is (st .bytes .now) (st .offsets .now) (st .i) (search needs))
 
 pub string-at-spec : {M : Type 1} → statement M

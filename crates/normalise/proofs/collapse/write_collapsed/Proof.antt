@@ -16,8 +16,12 @@ Inv-loop content text out₀ i₀ at₀ out i at = (i ≤ length text) × Writte
 abbrev μ-loop : tie.MeasureT-loop
 μ-loop content text out₀ i₀ at₀ out i at = length text - i
 
-here : (c : tie.After-space-run Inv-loop μ-loop) → RunAt (c .before .before .before .before .before .before .before .args .content .now) (c .before .before .before .before .before .before .before .args .text .now) (c .before .before .before .loop .i) (c .space-run .result)
-here c = run-at (c .before .before .before .before .before .before .before .args .content .now) (c .before .before .before .before .before .before .before .args .text .now) (c .before .before .before .loop .i) (c .space-run .result) (c .before .before .loop-test .taken) (c .space-run .ensures)
+-- the way back to the start
+abbrev start : tie.At-loop Inv-loop μ-loop → tie.Start Inv-loop μ-loop
+start a = a .before .before .before .before
+
+here : (c : tie.After-space-run Inv-loop μ-loop) → RunAt (start (c .before .before .before) .args .content .now) (start (c .before .before .before) .args .text .now) (c .before .before .before .loop .i) (c .space-run .result)
+here c = run-at (start (c .before .before .before) .args .content .now) (start (c .before .before .before) .args .text .now) (c .before .before .before .loop .i) (c .space-run .result) (c .before .before .loop-test .taken) (c .space-run .ensures)
 
 loop-holds : tie.Need-loop-holds Inv-loop μ-loop
 loop-holds c =
@@ -40,10 +44,10 @@ shared-slice-read-out : tie.Need-shared-slice-read-out Inv-loop μ-loop
 shared-slice-read-out c = search needs
 
 slice-write-out : tie.Need-slice-write-out Inv-loop μ-loop
-slice-write-out c = written-room (c .before .before .before .before .before .before .before .before .before .pre) (c .before .before .before .before .before .loop .inv .1) (here (c .before .before) .byte (search needs))
+slice-write-out c = written-room (start (c .before .before .before .before .before) .pre) (c .before .before .before .before .before .loop .inv .1) (here (c .before .before) .byte (search needs))
 
 add-at : tie.Need-add-at Inv-loop μ-loop
-add-at c = omega (arith, written-next (c .before .before .before .before .before .before .before .before .before .pre) (c .before .before .before .before .before .loop .inv .1) (here (c .before .before) .byte (search needs)))
+add-at c = omega (arith, written-next (start (c .before .before .before .before .before) .pre) (c .before .before .before .before .before .loop .inv .1) (here (c .before .before) .byte (search needs)))
 
 add-i : tie.Need-add-i Inv-loop μ-loop
 add-i c = search needs
@@ -52,13 +56,13 @@ loop-less : tie.Need-loop-less Inv-loop μ-loop
 loop-less c = search needs
 
 loop-again : tie.Need-loop-again Inv-loop μ-loop
-loop-again c = (search needs, written-byte (c .before .before .before .before .before .before .before .before .before .pre) (c .before .before .before .before .before .loop .inv .1) (here (c .before .before) .byte (search needs)))
+loop-again c = (search needs, written-byte (start (c .before .before .before .before .before) .pre) (c .before .before .before .before .before .loop .inv .1) (here (c .before .before) .byte (search needs)))
 
 copy-at-requires : tie.Need-copy-at-requires Inv-loop μ-loop
-copy-at-requires c κs = written-fits (c .before .before .before .before .before .before .before .before .before .pre) (c .before .before .before .before .before .loop .inv .1) (here (c .before .before) .many (search needs))
+copy-at-requires c κs = written-fits (start (c .before .before .before .before .before) .pre) (c .before .before .before .before .before .loop .inv .1) (here (c .before .before) .many (search needs))
 
 add-at-2 : tie.Need-add-at-2 Inv-loop μ-loop
-add-at-2 c = omega (arith, written-next (c .before .before .before .before .before .before .before .before .before .before .before .before .pre) (c .before .before .before .before .before .before .before .before .loop .inv .1) (here (c .before .before .before .before .before) .many (search needs)))
+add-at-2 c = omega (arith, written-next (start (c .before .before .before .before .before .before .before .before) .pre) (c .before .before .before .before .before .before .before .before .loop .inv .1) (here (c .before .before .before .before .before) .many (search needs)))
 
 add-i-2 : tie.Need-add-i-2 Inv-loop μ-loop
 add-i-2 c = omega (arith, here (c .before .before .before .before .before) .ends)
@@ -67,15 +71,15 @@ loop-less-2 : tie.Need-loop-less-2 Inv-loop μ-loop
 loop-less-2 c = omega (arith, here (c .before .before .before .before .before) .ends)
 
 loop-again-2 : tie.Need-loop-again-2 Inv-loop μ-loop
-loop-again-2 c = (here (c .before .before .before .before .before) .ends, rw (c .before .before .copy-at .ensures) (written-part (c .before .before .before .before .before .before .before .before .before .before .before .before .pre) (c .before .before .before .before .before .before .before .before .loop .inv .1) (here (c .before .before .before .before .before) .many (search needs))))
+loop-again-2 c = (here (c .before .before .before .before .before) .ends, rw (c .before .before .copy-at .ensures) (written-part (start (c .before .before .before .before .before .before .before .before) .pre) (c .before .before .before .before .before .before .before .before .loop .inv .1) (here (c .before .before .before .before .before) .many (search needs))))
 
 same-length : tie.Need-same-length Inv-loop μ-loop
-same-length c = written-length (c .before .before .before .before .before .pre) (c .before .loop .inv .1)
+same-length c = written-length (start (c .before) .pre) (c .before .loop .inv .1)
 
 returns : tie.Need-returns Inv-loop μ-loop
 returns c =
-    let st = c .before .before .before .before .before .args in
-    written-ended (c .before .before .before .before .before .pre) (c .before .loop .inv .1) (collapsed-ended (st .content .now) (st .text .now) (c .before .loop .i) (search needs))
+    let st = start (c .before) .args in
+    written-ended (start (c .before) .pre) (c .before .loop .inv .1) (collapsed-ended (st .content .now) (st .text .now) (c .before .loop .i) (search needs))
 
 pub write-collapsed-spec : {M : Type 1} → statement M
 write-collapsed-spec =

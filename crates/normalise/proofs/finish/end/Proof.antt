@@ -7,6 +7,10 @@ use Rattle.normalise.proofs.FinishLaws.{ended-given, ended-in-a, ended-
 use Rattle.normalise.proofs.finish.end.Statement.{statement}
 use Rattle.normalise.proofs.finish.end.Tie as tie
 
+-- the way back to the start
+abbrev start : tie.After-slice-known → tie.Start
+start a = a .before .before .before .before
+
 enum-told : tie.Need-enum-told
 enum-told c = search needs
 
@@ -41,24 +45,30 @@ same-length : tie.Need-same-length
 same-length c = search needs
 
 returns : tie.Need-returns
-returns c = ended-given (c .before .before .before .before .before .before .before .before .before .before .args .text .now) (c .before .before .before .before .before .before .before .before .before .before .args .a .now) (c .before .before .before .before .before .before .before .before .before .before .args .b .now) (c .before .before .before .before .before .before .before .before .before .before .args .out .now) (c .before .before .before .before .before .before .before .before .before .before .args .ran) _ (c .before .before .before .before .enum-told .given .1) (c .before .before .finish .ensures)
+returns c =
+    let st = start (c .before .before .before .before .before .before) .args in
+    ended-given (st .text .now) (st .a .now) (st .b .now) (st .out .now) (st .ran) _ (c .before .before .before .before .enum-told .given .1) (c .before .before .finish .ensures)
 
 same-length-2 : tie.Need-same-length-2
 same-length-2 c = search needs
 
 returns-2 : tie.Need-returns-2
-returns-2 c = ended-in-a (c .before .before .before .before .before .before .before .before .before .before .before .before .args .text .now) (c .before .before .before .before .before .before .before .before .before .before .before .before .args .a .now) (c .before .before .before .before .before .before .before .before .before .before .before .before .args .b .now) (c .before .before .before .before .before .before .before .before .before .before .before .before .args .out .now) (c .before .before .before .before .before .before .before .before .before .before .before .before .args .ran) _ _ _ (c .before .before .before .before .before .before .ran .given .1) (c .before .before .before .before .part .ensures) (c .before .before .finish2 .ensures)
+returns-2 c =
+    let st = start (c .before .before .before .before .before .before .before .before) .args in
+    ended-in-a (st .text .now) (st .a .now) (st .b .now) (st .out .now) (st .ran) _ _ _ (c .before .before .before .before .before .before .ran .given .1) (c .before .before .before .before .part .ensures) (c .before .before .finish2 .ensures)
 
 same-length-3 : tie.Need-same-length-3
 same-length-3 c = search needs
 
 returns-3 : tie.Need-returns-3
-returns-3 c = ended-in-b (c .before .before .before .before .before .before .before .before .before .before .before .before .args .text .now) (c .before .before .before .before .before .before .before .before .before .before .before .before .args .a .now) (c .before .before .before .before .before .before .before .before .before .before .before .before .args .b .now) (c .before .before .before .before .before .before .before .before .before .before .before .before .args .out .now) (c .before .before .before .before .before .before .before .before .before .before .before .before .args .ran) _ _ _ (c .before .before .before .before .before .before .ran2 .given .1) (c .before .before .before .before .part2 .ensures) (c .before .before .finish3 .ensures)
+returns-3 c =
+    let st = start (c .before .before .before .before .before .before .before .before) .args in
+    ended-in-b (st .text .now) (st .a .now) (st .b .now) (st .out .now) (st .ran) _ _ _ (c .before .before .before .before .before .before .ran2 .given .1) (c .before .before .before .before .part2 .ensures) (c .before .before .finish3 .ensures)
 
 returns-4 : tie.Need-returns-4
 returns-4 c =
-    let st = c .before .before .before .before .before .before .before .args in
-    ap (λ (a : Answer). (let o : Outcome = record { answer = a; out = st .out .now } in o)) (c .refused .ensures) ∙ ended-too-long (c .before .before .before .before .before .before .before .args .text .now) (c .before .before .before .before .before .before .before .args .a .now) (c .before .before .before .before .before .before .before .args .b .now) (c .before .before .before .before .before .before .before .args .out .now) (c .before .before .before .before .before .before .before .args .ran) (c .before .enum-told2 .given .1)
+    let st = start (c .before .before .before) .args in
+    ap (λ (a : Answer). (let o : Outcome = record { answer = a; out = st .out .now } in o)) (c .refused .ensures) ∙ ended-too-long (st .text .now) (st .a .now) (st .b .now) (st .out .now) (st .ran) (c .before .enum-told2 .given .1)
 
 pub end-spec : {M : Type 1} → statement M
 end-spec =

@@ -7,6 +7,14 @@ use Rattle.normalise.proofs.FinishLaws.{finished-short, finished-fits}
 use Rattle.normalise.proofs.finish.finish.Statement.{statement}
 use Rattle.normalise.proofs.finish.finish.Tie as tie
 
+-- the way back to the start
+abbrev start : tie.Else1 → tie.Start
+start a = a .before .before .before
+
+-- the way back to where the result was found to fit
+abbrev fitting : tie.After-done → tie.Else1
+fitting a = a .before .before .before .before .before .before .before .before .before
+
 refused-requires : tie.Need-refused-requires
 refused-requires c κs = search needs
 
@@ -29,9 +37,9 @@ same-length c = search needs
 
 returns-2 : tie.Need-returns-2
 returns-2 c =
-    let st = c .before .before .before .before .before .before .before .before .before .before .before .before .args in
+    let st = start (fitting c) .args in
     ap (λ (a : Answer). (let o : Outcome = record { answer = a; out = c .before .before .before .clear-from .last .0 } in o)) (c .done .ensures)
-    ∙ finished-fits (st .result .now) (st .out .now) _ _ (c .before .before .before .before .before .before .before .before .before .if1 .left) (c .before .before .before .before .before .before .before .copy-at .ensures) (c .before .before .before .clear-from .ensures)
+    ∙ finished-fits (st .result .now) (st .out .now) _ _ (fitting c .if1 .left) (c .before .before .before .before .before .before .before .copy-at .ensures) (c .before .before .before .clear-from .ensures)
 
 pub finish-spec : {M : Type 1} → statement M
 finish-spec =

@@ -5,8 +5,16 @@ use Rattle.normalise.proofs.FitLaws.{Answered, answered, put-within, pu
 use Rattle.normalise.proofs.metaspace.apply_metaspace.Statement.{statement}
 use Rattle.normalise.proofs.metaspace.apply_metaspace.Tie as tie
 
+-- the way back to the start
+abbrev start : tie.After-scheme-prepends → tie.Start
+start a = a .before .before .before
+
+-- the way back to where the length was measured
+abbrev measured : tie.After-slice-known2 → tie.After-metaspace-length
+measured a = a .before .before .before .before .before .before .before
+
 measure : (c : tie.After-metaspace-length)
-    → Answered (markPrepended (c .before .before .scheme-prepends .result) (spacesMarked (c .before .before .before .before .before .args .text .now))) (c .before .before .before .before .before .args .room) (c .before .before .before .before .before .args .out .now) (c .metaspace-length .result)
+    → Answered (markPrepended (c .before .before .scheme-prepends .result) (spacesMarked (start (c .before .before) .args .text .now))) (start (c .before .before) .args .room) (start (c .before .before) .args .out .now) (c .metaspace-length .result)
 measure c = answered (c .before .lesser .result) (c .before .lesser .ensures) (c .metaspace-length .ensures)
 
 scheme-prepends-requires : tie.Need-scheme-prepends-requires
@@ -34,7 +42,7 @@ same-length : tie.Need-same-length
 same-length c = search needs
 
 returns-2 : tie.Need-returns-2
-returns-2 c = rw (← c .before .before .before .before .before .before .before .before .before .scheme-prepends .ensures) (put-fits (measure (c .before .before .before .before .before .before .before)) (c .before .before .before .before .before .length .given .1) (c .before .before .write-metaspace .ensures))
+returns-2 c = rw (← measured c .before .before .scheme-prepends .ensures) (put-fits (measure (measured c)) (c .before .before .before .before .before .length .given .1) (c .before .before .write-metaspace .ensures))
 
 pub apply-metaspace-spec : {M : Type 1} → statement M
 apply-metaspace-spec =

@@ -16,11 +16,15 @@ Inv-loop pattern content text room i₀ n₀ i n = (i ≤ length text) × Measur
 abbrev μ-loop : tie.MeasureT-loop
 μ-loop pattern content text room i₀ n₀ i n = length text - i
 
+-- the way back to the start
+abbrev start : tie.At-loop Inv-loop μ-loop → tie.Start Inv-loop μ-loop
+start a = a .before .before .before .before
+
 here : (c : tie.After-starts-with Inv-loop μ-loop)
-    → MatchAt (c .before .before .before .before .before .before .before .args .pattern .now) (c .before .before .before .before .before .before .before .args .content .now) (c .before .before .before .before .before .before .before .args .text .now) (c .before .before .before .loop .i) (c .starts-with .result)
+    → MatchAt (start (c .before .before .before) .args .pattern .now) (start (c .before .before .before) .args .content .now) (start (c .before .before .before) .args .text .now) (c .before .before .before .loop .i) (c .starts-with .result)
 here c =
-    let st = c .before .before .before .before .before .before .before .args in
-    match-at (st .pattern .now) (st .content .now) (st .text .now) (c .before .before .before .loop .i) (c .starts-with .result) (c .before .before .before .before .before .before .before .pre) (c .before .before .loop-test .taken) (c .starts-with .ensures)
+    let st = start (c .before .before .before) .args in
+    match-at (st .pattern .now) (st .content .now) (st .text .now) (c .before .before .before .loop .i) (c .starts-with .result) (start (c .before .before .before) .pre) (c .before .before .loop-test .taken) (c .starts-with .ensures)
 
 loop-holds : tie.Need-loop-holds Inv-loop μ-loop
 loop-holds c =
@@ -52,12 +56,12 @@ add-i : tie.Need-add-i Inv-loop μ-loop
 add-i c = omega (arith, here (c .before .before) .ends (c .before .if1 .taken))
 
 loop-less : tie.Need-loop-less Inv-loop μ-loop
-loop-less c = omega (arith, here (c .before .before) .ends (c .before .if1 .taken), c .before .before .before .before .before .before .before .before .before .pre)
+loop-less c = omega (arith, here (c .before .before) .ends (c .before .if1 .taken), start (c .before .before .before .before .before) .pre)
 
 loop-again : tie.Need-loop-again Inv-loop μ-loop
 loop-again c =
     let h = here (c .before .before) in
-    (omega (arith, h .ends (c .before .if1 .taken), c .before .before .before .before .before .before .before .before .before .pre), measured-next (c .before .before .before .before .before .loop .inv .1) (h .found (c .before .if1 .taken)) (search needs))
+    (omega (arith, h .ends (c .before .if1 .taken), start (c .before .before .before .before .before) .pre), measured-next (c .before .before .before .before .before .loop .inv .1) (h .found (c .before .if1 .taken)) (search needs))
 
 sub-if3 : tie.Need-sub-if3 Inv-loop μ-loop
 sub-if3 c = search needs
@@ -79,8 +83,8 @@ loop-again-2 c = (search needs, measured-next (c .before .before .before .before
 
 returns-3 : tie.Need-returns-3 Inv-loop μ-loop
 returns-3 c =
-    let st = c .before .before .before .before .before .args in
-    measured-ended (c .before .loop .inv .1) (replaced-ended (st .pattern .now) (st .content .now) (st .text .now) (c .before .loop .i) (c .before .before .before .before .before .pre) (search needs))
+    let st = start (c .before) .args in
+    measured-ended (c .before .loop .inv .1) (replaced-ended (st .pattern .now) (st .content .now) (st .text .now) (c .before .loop .i) (start (c .before) .pre) (search needs))
 
 pub exchanged-length-spec : {M : Type 1} → statement M
 exchanged-length-spec =

@@ -16,11 +16,15 @@ Inv-loop pattern content text out₀ i₀ at₀ out i at = (i ≤ length text) �
 abbrev μ-loop : tie.MeasureT-loop
 μ-loop pattern content text out₀ i₀ at₀ out i at = length text - i
 
+-- the way back to the start
+abbrev start : tie.At-loop Inv-loop μ-loop → tie.Start Inv-loop μ-loop
+start a = a .before .before .before .before .before
+
 here : (c : tie.After-starts-with Inv-loop μ-loop)
-    → MatchAt (c .before .before .before .before .before .before .before .before .args .pattern .now) (c .before .before .before .before .before .before .before .before .args .content .now) (c .before .before .before .before .before .before .before .before .args .text .now) (c .before .before .before .loop .i) (c .starts-with .result)
+    → MatchAt (start (c .before .before .before) .args .pattern .now) (start (c .before .before .before) .args .content .now) (start (c .before .before .before) .args .text .now) (c .before .before .before .loop .i) (c .starts-with .result)
 here c =
-    let st = c .before .before .before .before .before .before .before .before .args in
-    match-at (st .pattern .now) (st .content .now) (st .text .now) (c .before .before .before .loop .i) (c .starts-with .result) (c .before .before .before .before .before .before .before .before .pre .0) (c .before .before .loop-test .taken) (c .starts-with .ensures)
+    let st = start (c .before .before .before) .args in
+    match-at (st .pattern .now) (st .content .now) (st .text .now) (c .before .before .before .loop .i) (c .starts-with .result) (start (c .before .before .before) .pre .0) (c .before .before .loop-test .taken) (c .starts-with .ensures)
 
 loop-holds : tie.Need-loop-holds Inv-loop μ-loop
 loop-holds c =
@@ -43,27 +47,27 @@ add-next : tie.Need-add-next Inv-loop μ-loop
 add-next c = omega (arith, here (c .before) .ends (c .if1 .taken))
 
 copy-at-requires : tie.Need-copy-at-requires Inv-loop μ-loop
-copy-at-requires c κs = written-fits (c .before .before .before .before .before .before .before .before .before .before .pre .1) (c .before .before .before .before .before .loop .inv .1) (here (c .before .before) .found (c .before .if1 .taken))
+copy-at-requires c κs = written-fits (start (c .before .before .before .before .before) .pre .1) (c .before .before .before .before .before .loop .inv .1) (here (c .before .before) .found (c .before .if1 .taken))
 
 add-at : tie.Need-add-at Inv-loop μ-loop
-add-at c = omega (arith, written-next (c .before .before .before .before .before .before .before .before .before .before .before .before .before .pre .1) (c .before .before .before .before .before .before .before .before .loop .inv .1) (here (c .before .before .before .before .before) .found (c .before .before .before .before .if1 .taken)))
+add-at c = omega (arith, written-next (start (c .before .before .before .before .before .before .before .before) .pre .1) (c .before .before .before .before .before .before .before .before .loop .inv .1) (here (c .before .before .before .before .before) .found (c .before .before .before .before .if1 .taken)))
 
 loop-less : tie.Need-loop-less Inv-loop μ-loop
-loop-less c = omega (arith, here (c .before .before .before .before .before) .ends (c .before .before .before .before .if1 .taken), c .before .before .before .before .before .before .before .before .before .before .before .before .before .pre .0)
+loop-less c = omega (arith, here (c .before .before .before .before .before) .ends (c .before .before .before .before .if1 .taken), start (c .before .before .before .before .before .before .before .before) .pre .0)
 
 loop-again : tie.Need-loop-again Inv-loop μ-loop
 loop-again c =
     let h = here (c .before .before .before .before .before) in
-    (omega (arith, h .ends (c .before .before .before .before .if1 .taken), c .before .before .before .before .before .before .before .before .before .before .before .before .before .pre .0), rw (c .before .before .copy-at .ensures) (written-part (c .before .before .before .before .before .before .before .before .before .before .before .before .before .pre .1) (c .before .before .before .before .before .before .before .before .loop .inv .1) (h .found (c .before .before .before .before .if1 .taken))))
+    (omega (arith, h .ends (c .before .before .before .before .if1 .taken), start (c .before .before .before .before .before .before .before .before) .pre .0), rw (c .before .before .copy-at .ensures) (written-part (start (c .before .before .before .before .before .before .before .before) .pre .1) (c .before .before .before .before .before .before .before .before .loop .inv .1) (h .found (c .before .before .before .before .if1 .taken))))
 
 shared-slice-read-out : tie.Need-shared-slice-read-out Inv-loop μ-loop
 shared-slice-read-out c = search needs
 
 slice-write-out : tie.Need-slice-write-out Inv-loop μ-loop
-slice-write-out c = written-room (c .before .before .before .before .before .before .before .before .before .before .pre .1) (c .before .before .before .before .before .loop .inv .1) (here (c .before .before) .byte (c .before .if1 .left))
+slice-write-out c = written-room (start (c .before .before .before .before .before) .pre .1) (c .before .before .before .before .before .loop .inv .1) (here (c .before .before) .byte (c .before .if1 .left))
 
 add-at-2 : tie.Need-add-at-2 Inv-loop μ-loop
-add-at-2 c = omega (arith, written-next (c .before .before .before .before .before .before .before .before .before .before .pre .1) (c .before .before .before .before .before .loop .inv .1) (here (c .before .before) .byte (c .before .if1 .left)))
+add-at-2 c = omega (arith, written-next (start (c .before .before .before .before .before) .pre .1) (c .before .before .before .before .before .loop .inv .1) (here (c .before .before) .byte (c .before .if1 .left)))
 
 add-i : tie.Need-add-i Inv-loop μ-loop
 add-i c = search needs
@@ -72,15 +76,15 @@ loop-less-2 : tie.Need-loop-less-2 Inv-loop μ-loop
 loop-less-2 c = search needs
 
 loop-again-2 : tie.Need-loop-again-2 Inv-loop μ-loop
-loop-again-2 c = (search needs, written-byte (c .before .before .before .before .before .before .before .before .before .before .pre .1) (c .before .before .before .before .before .loop .inv .1) (here (c .before .before) .byte (c .before .if1 .left)))
+loop-again-2 c = (search needs, written-byte (start (c .before .before .before .before .before) .pre .1) (c .before .before .before .before .before .loop .inv .1) (here (c .before .before) .byte (c .before .if1 .left)))
 
 same-length : tie.Need-same-length Inv-loop μ-loop
-same-length c = written-length (c .before .before .before .before .before .before .pre .1) (c .before .loop .inv .1)
+same-length c = written-length (start (c .before) .pre .1) (c .before .loop .inv .1)
 
 returns : tie.Need-returns Inv-loop μ-loop
 returns c =
-    let st = c .before .before .before .before .before .before .args in
-    written-ended (c .before .before .before .before .before .before .pre .1) (c .before .loop .inv .1) (replaced-ended (st .pattern .now) (st .content .now) (st .text .now) (c .before .loop .i) (c .before .before .before .before .before .before .pre .0) (search needs))
+    let st = start (c .before) .args in
+    written-ended (start (c .before) .pre .1) (c .before .loop .inv .1) (replaced-ended (st .pattern .now) (st .content .now) (st .text .now) (c .before .loop .i) (start (c .before) .pre .0) (search needs))
 
 pub write-exchanged-spec : {M : Type 1} → statement M
 write-exchanged-spec =

@@ -18,15 +18,27 @@ Inv-loop content text out₀ i₀ at₀ out i at = (i ≤ length text) × Writte
 abbrev μ-loop : tie.MeasureT-loop
 μ-loop content text out₀ i₀ at₀ out i at = length text - i
 
+-- the way back to the start
+abbrev start : tie.At-loop Inv-loop μ-loop → tie.Start Inv-loop μ-loop
+start a = a .before .before .before .before
+
+-- the way back to the loop from the character of a turn
+abbrev loop : tie.After-char-step Inv-loop μ-loop → tie.At-loop Inv-loop μ-loop
+loop a = a .before .before .before
+
+-- the way back to that character from the end of a turn
+abbrev stepped : tie.After-slice-known3 Inv-loop μ-loop → tie.After-char-step Inv-loop μ-loop
+stepped a = a .before .before .before .before .before .before .before .before .before
+
 module _ (c : tie.After-char-step Inv-loop μ-loop) where
   abbrev content : List ℕ
-  content = c .before .before .before .before .before .before .before .args .content .now
+  content = start (loop c) .args .content .now
 
   abbrev text : List ℕ
-  text = c .before .before .before .before .before .before .before .args .text .now
+  text = start (loop c) .args .text .now
 
   abbrev place : ℕ
-  place = c .before .before .before .loop .i
+  place = loop c .loop .i
 
   abbrev w : ℕ
   w = c .char-step .result
@@ -41,8 +53,8 @@ module _ (c : tie.After-char-step Inv-loop μ-loop) where
 once : (c : tie.After-copy-at Inv-loop μ-loop)
     → Written (replaced [] (content (c .before .before)) (text (c .before .before)))
     (take (w (c .before .before)) (drop (place (c .before .before)) (text (c .before .before))) ++ replaced [] (content (c .before .before)) (drop (place (c .before .before) + w (c .before .before)) (text (c .before .before))))
-    (c .before .before .before .before .before .before .before .before .before .args .out .now) (c .copy-at .last .0) (c .before .before .before .before .before .loop .at + length (content (c .before .before)))
-once c = rw (c .copy-at .ensures) (written-part (c .before .before .before .before .before .before .before .before .before .pre) (c .before .before .before .before .before .loop .inv .1) (here (c .before .before) .first))
+    (start (loop (c .before .before)) .args .out .now) (c .copy-at .last .0) (loop (c .before .before) .loop .at + length (content (c .before .before)))
+once c = rw (c .copy-at .ensures) (written-part (start (loop (c .before .before)) .pre) (loop (c .before .before) .loop .inv .1) (here (c .before .before) .first))
 
 loop-holds : tie.Need-loop-holds Inv-loop μ-loop
 loop-holds c =
@@ -62,10 +74,10 @@ char-step-requires : tie.Need-char-step-requires Inv-loop μ-loop
 char-step-requires c κs = search needs
 
 copy-at-requires : tie.Need-copy-at-requires Inv-loop μ-loop
-copy-at-requires c κs = written-fits (c .before .before .before .before .before .before .before .before .pre) (c .before .before .before .before .loop .inv .1) (here (c .before) .first)
+copy-at-requires c κs = written-fits (start (loop (c .before)) .pre) (loop (c .before) .loop .inv .1) (here (c .before) .first)
 
 add-at : tie.Need-add-at Inv-loop μ-loop
-add-at c = omega (arith, written-next (c .before .before .before .before .before .before .before .before .before .before .before .pre) (c .before .before .before .before .before .before .before .loop .inv .1) (here (c .before .before .before .before) .first))
+add-at c = omega (arith, written-next (start (loop (c .before .before .before .before)) .pre) (loop (c .before .before .before .before) .loop .inv .1) (here (c .before .before .before .before) .first))
 
 add-next : tie.Need-add-next Inv-loop μ-loop
 add-next c = omega (arith, here (c .before .before .before .before) .ends)
@@ -80,32 +92,32 @@ part-copy-at-end : tie.Need-part-copy-at-end Inv-loop μ-loop
 part-copy-at-end c = here (c .before .before .before .before .before) .ends
 
 copy-at-requires-2 : tie.Need-copy-at-requires-2 Inv-loop μ-loop
-copy-at-requires-2 c κs = rw (whole (c .before .before .before .before .before .before)) (written-fits (c .before .before .before .before .before .before .before .before .before .before .before .before .before .pre) (once (c .before .before .before .before)) (here (c .before .before .before .before .before .before) .second))
+copy-at-requires-2 c κs = rw (whole (c .before .before .before .before .before .before)) (written-fits (start (loop (c .before .before .before .before .before .before)) .pre) (once (c .before .before .before .before)) (here (c .before .before .before .before .before .before) .second))
 
 add-at-2 : tie.Need-add-at-2 Inv-loop μ-loop
-add-at-2 c = omega (arith, written-next (c .before .before .before .before .before .before .before .before .before .before .before .before .before .before .before .before .pre) (once (c .before .before .before .before .before .before .before)) (here (c .before .before .before .before .before .before .before .before .before) .second), here (c .before .before .before .before .before .before .before .before .before) .wide)
+add-at-2 c = omega (arith, written-next (start (loop (stepped c)) .pre) (once (c .before .before .before .before .before .before .before)) (here (stepped c) .second), here (stepped c) .wide)
 
 loop-less : tie.Need-loop-less Inv-loop μ-loop
-loop-less c = omega (arith, here (c .before .before .before .before .before .before .before .before .before) .ends, here (c .before .before .before .before .before .before .before .before .before) .some)
+loop-less c = omega (arith, here (stepped c) .ends, here (stepped c) .some)
 
 loop-again : tie.Need-loop-again Inv-loop μ-loop
 loop-again c =
-    let h = here (c .before .before .before .before .before .before .before .before .before) in
-    (h .ends, rw (c .before .before .copy-at2 .ensures, whole (c .before .before .before .before .before .before .before .before .before), h .wide) (rw (h .wide) at (written-part (c .before .before .before .before .before .before .before .before .before .before .before .before .before .before .before .before .pre) (once (c .before .before .before .before .before .before .before)) (h .second))))
+    let h = here (stepped c) in
+    (h .ends, rw (c .before .before .copy-at2 .ensures, whole (stepped c), h .wide) (rw (h .wide) at (written-part (start (loop (stepped c)) .pre) (once (c .before .before .before .before .before .before .before)) (h .second))))
 
 copy-at-requires-3 : tie.Need-copy-at-requires-3 Inv-loop μ-loop
 copy-at-requires-3 c κs =
-    let st = c .before .before .before .before .before .before .args in
-    written-fits (c .before .before .before .before .before .before .pre) (c .before .before .loop .inv .1) (inserted-ended (st .content .now) (st .text .now) (c .before .before .loop .i) (search needs))
+    let st = start (c .before .before) .args in
+    written-fits (start (c .before .before) .pre) (c .before .before .loop .inv .1) (inserted-ended (st .content .now) (st .text .now) (c .before .before .loop .i) (search needs))
 
 same-length : tie.Need-same-length Inv-loop μ-loop
-same-length c = c .before .before .copy-at3 .kept .0 ∙ written-length (c .before .before .before .before .before .before .before .before .before .pre) (c .before .before .before .before .before .loop .inv .1)
+same-length c = c .before .before .copy-at3 .kept .0 ∙ written-length (start (c .before .before .before .before .before) .pre) (c .before .before .before .before .before .loop .inv .1)
 
 returns : tie.Need-returns Inv-loop μ-loop
 returns c =
-    let st = c .before .before .before .before .before .before .before .before .before .args in
+    let st = start (c .before .before .before .before .before) .args in
     c .before .before .copy-at3 .ensures
-    ∙ written-ended (c .before .before .before .before .before .before .before .before .before .pre) (written-part (c .before .before .before .before .before .before .before .before .before .pre) (c .before .before .before .before .before .loop .inv .1) (inserted-ended (st .content .now) (st .text .now) (c .before .before .before .before .before .loop .i) (search needs))) refl
+    ∙ written-ended (start (c .before .before .before .before .before) .pre) (written-part (start (c .before .before .before .before .before) .pre) (c .before .before .before .before .before .loop .inv .1) (inserted-ended (st .content .now) (st .text .now) (c .before .before .before .before .before .loop .i) (search needs))) refl
 
 pub write-inserted-spec : {M : Type 1} → statement M
 write-inserted-spec =

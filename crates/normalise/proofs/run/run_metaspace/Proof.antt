@@ -12,6 +12,10 @@ use Rattle.normalise.proofs.run.run_metaspace.Tie as tie
 abbrev marked : PrependScheme → Bool → List ℕ → List ℕ
 marked prepend first bytes = markPrepended (schemePrepends prepend first) (spacesMarked bytes)
 
+-- the way back to the start
+abbrev start : tie.After-slice-known2 → tie.Start
+start a = a .before .before .before
+
 enum-told : tie.Need-enum-told
 enum-told c = search needs
 
@@ -53,7 +57,7 @@ same-length c = search needs
 
 returns : tie.Need-returns
 returns c =
-    let st = c .before .before .before .before .before .before .before .before .before .before .args in
+    let st = start (c .before .before .before .before .before .before .before) .args in
     turn-given (marked (st .prepend) (st .first)) (st .text .now) (st .room) (st .from) (st .a .now) (st .b .now) _ _ _ (c .before .before .before .before .before .enum-told .given .1) (c .before .before .before .apply-metaspace .ensures) (c .in-a .ensures)
 
 same-length-2 : tie.Need-same-length-2
@@ -64,8 +68,9 @@ same-length-3 c = search needs
 
 returns-2 : tie.Need-returns-2
 returns-2 c =
-    let st = c .before .before .before .before .before .before .before .before .before .before .before .before .before .args in
-    turn-in-a (marked (st .prepend) (st .first)) (st .text .now) (st .room) (st .from) (st .a .now) (st .b .now) _ _ _ _ _ (c .before .before .before .before .before .before .before .before .from .given .1) (c .before .before .before .before .before .part .ensures) (c .before .before .before .apply-metaspace2 .ensures) (c .in-b .ensures)
+    let f = c .before .before .before .before .before .before .before .before in
+    let st = start (f .before .before) .args in
+    turn-in-a (marked (st .prepend) (st .first)) (st .text .now) (st .room) (st .from) (st .a .now) (st .b .now) _ _ _ _ _ (f .from .given .1) (c .before .before .before .before .before .part .ensures) (c .before .before .before .apply-metaspace2 .ensures) (c .in-b .ensures)
 
 same-length-4 : tie.Need-same-length-4
 same-length-4 c = search needs
@@ -75,12 +80,13 @@ same-length-5 c = search needs
 
 returns-3 : tie.Need-returns-3
 returns-3 c =
-    let st = c .before .before .before .before .before .before .before .before .before .before .before .before .before .args in
-    turn-in-b (marked (st .prepend) (st .first)) (st .text .now) (st .room) (st .from) (st .a .now) (st .b .now) _ _ _ _ _ (c .before .before .before .before .before .before .before .before .from2 .given .1) (c .before .before .before .before .before .part2 .ensures) (c .before .before .before .apply-metaspace3 .ensures) (c .in-a2 .ensures)
+    let f = c .before .before .before .before .before .before .before .before in
+    let st = start (f .before .before) .args in
+    turn-in-b (marked (st .prepend) (st .first)) (st .text .now) (st .room) (st .from) (st .a .now) (st .b .now) _ _ _ _ _ (f .from2 .given .1) (c .before .before .before .before .before .part2 .ensures) (c .before .before .before .apply-metaspace3 .ensures) (c .in-a2 .ensures)
 
 returns-4 : tie.Need-returns-4
 returns-4 c =
-    let st = c .before .before .before .before .before .args in
+    let st = start (c .before .before) .args in
     turn-too-long (marked (st .prepend) (st .first)) (st .text .now) (st .room) (st .from) (st .a .now) (st .b .now) (c .enum-told2 .given .1)
 
 pub run-metaspace-spec : {M : Type 1} → statement M

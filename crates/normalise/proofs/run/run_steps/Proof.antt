@@ -15,6 +15,14 @@ Inv-loop step-bytes count text room a₀ b₀ steps ran₀ i₀ a b ran i = (i �
 abbrev μ-loop : tie.MeasureT-loop
 μ-loop step-bytes count text room a₀ b₀ steps ran₀ i₀ a b ran i = count - i
 
+-- the way back to the start
+abbrev start : tie.At-loop Inv-loop μ-loop → tie.Start Inv-loop μ-loop
+start a = a .before .before .before .before .before
+
+-- the way back to the loop from the end of a turn
+abbrev loop : tie.After-slice-known4 Inv-loop μ-loop → tie.At-loop Inv-loop μ-loop
+loop a = a .before .before .before .before .before .before .before .before .before .before
+
 loop-holds : tie.Need-loop-holds Inv-loop μ-loop
 loop-holds c = search needs
 
@@ -27,7 +35,7 @@ same-length-2 c = search needs
 returns : tie.Need-returns Inv-loop μ-loop
 returns c =
     let l = c .before .before .loop in
-    let st = c .before .before .before .before .before .before .before .args in
+    let st = start (c .before .before) .args in
     let sixteen : length (st .t2) ≡ 16 = search needs in
     sym (l .inv .4 ∙ steps-ended (st .step-bytes .now) (st .t2) (st .count) (l .i) (st .text .now) (st .room) (record { ran = l .ran; a = l .a; b = l .b }) (omega (arith, length-take (st .count) (st .t2), sixteen)))
 
@@ -48,8 +56,8 @@ loop-less c = search needs
 
 loop-again : tie.Need-loop-again Inv-loop μ-loop
 loop-again c =
-    let l = c .before .before .before .before .before .before .before .before .before .before .loop in
-    let st = c .before .before .before .before .before .before .before .before .before .before .before .before .before .before .before .args in
+    let l = loop c .loop in
+    let st = start (loop c) .args in
     (search needs, search needs, search needs, search needs, l .inv .4 ∙ steps-next (st .step-bytes .now) (st .t2) (st .count) (l .i) (st .text .now) (st .room) (record { ran = l .ran; a = l .a; b = l .b }) _ (search needs) (search needs) ∙ ap (stepsRun (st .step-bytes .now) (drop (l .i + 1) (take (st .count) (st .t2))) (st .text .now) (st .room)) (sym (c .before .before .before .before .run-step .ensures)))
 
 same-length-3 : tie.Need-same-length-3 Inv-loop μ-loop
@@ -61,7 +69,7 @@ same-length-4 c = search needs
 returns-2 : tie.Need-returns-2 Inv-loop μ-loop
 returns-2 c =
     let l = c .before .loop in
-    let st = c .before .before .before .before .before .before .args in
+    let st = start (c .before) .args in
     sym (l .inv .4 ∙ steps-ended (st .step-bytes .now) (st .t2) (st .count) (l .i) (st .text .now) (st .room) (record { ran = l .ran; a = l .a; b = l .b }) (omega (arith, length-take (st .count) (st .t2))))
 
 pub run-steps-spec : {M : Type 1} → statement M

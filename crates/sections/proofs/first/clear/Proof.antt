@@ -10,19 +10,19 @@ use Rattle.sections.proofs.first.clear.Statement.{statement}
 use Rattle.sections.proofs.first.clear.Tie as tie
 
 abbrev Inv-loop : tie.InvT-loop
-Inv-loop first₀ i₀ first i = (i ≤ length first₀) × (length first ≡ length first₀) × (first ≡ replicate i 0 ++ drop i first₀)
+Inv-loop begins₀ i₀ begins i = (i ≤ length begins₀) × (length begins ≡ length begins₀) × (begins ≡ replicate i 0 ++ drop i begins₀)
 
 abbrev μ-loop : tie.MeasureT-loop
-μ-loop first₀ i₀ first i = length first₀ - i
+μ-loop begins₀ i₀ begins i = length begins₀ - i
 
 loop-holds : tie.Need-loop-holds Inv-loop μ-loop
 loop-holds c = search needs
 
-mul-first : tie.Need-mul-first Inv-loop μ-loop
-mul-first c = search needs
+mul-begins : tie.Need-mul-begins Inv-loop μ-loop
+mul-begins c = search needs
 
-slice-write-first : tie.Need-slice-write-first Inv-loop μ-loop
-slice-write-first c = search needs
+slice-write-begins : tie.Need-slice-write-begins Inv-loop μ-loop
+slice-write-begins c = search needs
 
 add-i : tie.Need-add-i Inv-loop μ-loop
 add-i c = search needs
@@ -33,7 +33,7 @@ loop-less c = search needs
 loop-again : tie.Need-loop-again Inv-loop μ-loop
 loop-again c =
     let l = c .before .loop in
-    let before = c .before .before .args .first .now in
+    let before = c .before .before .args .begins .now in
     (search needs, search needs, ap (λ (row : List ℕ). set row (l .i) 0) (l .inv .2) ∙ fill-more (l .i) 0 before (search needs))
 
 same-length : tie.Need-same-length Inv-loop μ-loop
@@ -42,7 +42,7 @@ same-length c = search needs
 returns : tie.Need-returns Inv-loop μ-loop
 returns c =
     let l = c .before .loop in
-    cleared (c .before .before .args .first .now) (l .first) (l .i) (search needs) (search needs) (l .inv .2)
+    cleared (c .before .before .args .begins .now) (l .begins) (l .i) (search needs) (search needs) (l .inv .2)
 
 pub clear-spec : {M : Type 1} → statement M
 clear-spec =
@@ -51,8 +51,8 @@ clear-spec =
     Inv-loop
     μ-loop
     loop-holds
-    mul-first
-    slice-write-first
+    mul-begins
+    slice-write-begins
     add-i
     loop-less
     loop-again

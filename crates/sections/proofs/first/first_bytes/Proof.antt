@@ -12,10 +12,10 @@ use Rattle.sections.proofs.first.first_bytes.Statement.{statement}
 use Rattle.sections.proofs.first.first_bytes.Tie as tie
 
 abbrev Inv-loop : tie.InvT-loop
-Inv-loop bytes offsets first₀ count row₀ first row = (count ≡ length (strings bytes offsets)) × (row ≤ count) × (length first ≡ length first₀) × (noteFirsts (drop row (strings bytes offsets)) first ≡ noteFirsts (strings bytes offsets) first₀)
+Inv-loop bytes offsets begins₀ count row₀ begins row = (count ≡ length (strings bytes offsets)) × (row ≤ count) × (length begins ≡ length begins₀) × (noteFirsts (drop row (strings bytes offsets)) begins ≡ noteFirsts (strings bytes offsets) begins₀)
 
 abbrev μ-loop : tie.MeasureT-loop
-μ-loop bytes offsets first₀ count row₀ first row = count - row
+μ-loop bytes offsets begins₀ count row₀ begins row = count - row
 
 -- the start of the call, from where the loop begins, and its contents
 abbrev start : tie.After-string-count Inv-loop μ-loop → tie.Start Inv-loop μ-loop
@@ -51,7 +51,7 @@ loop-again : tie.Need-loop-again Inv-loop μ-loop
 loop-again c =
     let l = c .before .before .before .before .before .before .loop in
     let cs = contents (c .before .before .before .before .before .before .before) in
-    (l .inv .0, search needs, search needs, ap (noteFirsts (drop (l .row + 1) cs)) (c .before .before .note-first .ensures ∙ ap (λ (content : List ℕ). noteFirst content (l .first)) (c .before .before .before .before .string-at .ensures)) ∙ sym (noted-next cs (l .first) (l .row) (search needs)) ∙ l .inv .3)
+    (l .inv .0, search needs, search needs, ap (noteFirsts (drop (l .row + 1) cs)) (c .before .before .note-first .ensures ∙ ap (λ (content : List ℕ). noteFirst content (l .begins)) (c .before .before .before .before .string-at .ensures)) ∙ sym (noted-next cs (l .begins) (l .row) (search needs)) ∙ l .inv .3)
 
 same-length : tie.Need-same-length Inv-loop μ-loop
 same-length c = search needs
@@ -60,7 +60,7 @@ returns : tie.Need-returns Inv-loop μ-loop
 returns c =
     let l = c .before .loop in
     let cs = contents (c .before .before) in
-    sym (noted-ended cs (l .first) (l .row) (search needs)) ∙ l .inv .3 ∙ ap (noteFirsts cs) (c .before .before .before .before .before .clear .ensures) ∙ noted-first cs (length (start (c .before .before) .args .first .now))
+    sym (noted-ended cs (l .begins) (l .row) (search needs)) ∙ l .inv .3 ∙ ap (noteFirsts cs) (c .before .before .before .before .before .clear .ensures) ∙ noted-first cs (length (start (c .before .before) .args .begins .now))
 
 pub first-bytes-spec : {M : Type 1} → statement M
 first-bytes-spec =

@@ -12,7 +12,7 @@ wide-requires c κs = search needs
 returns : tie.Need-returns
 returns c =
     let a = c .before .before .before .args in
-    sym (may-past (a .first .now) (a .b) (omega (arith, c .before .wide .ensures)))
+    sym (may-past (a .begins .now) (a .b) (omega (arith, c .before .wide .ensures)))
 
 mul-result : tie.Need-mul-result
 mul-result c = search needs
@@ -24,7 +24,7 @@ returns-2 : tie.Need-returns-2
 returns-2 c =
     let a = c .before .before .before .before .args in
     let at = c .before .before .wide .ensures in
-    rw at (sym (may-at (a .first .now) (a .b) (omega (arith, at))))
+    rw at (sym (may-at (a .begins .now) (a .b) (omega (arith, at))))
 
 pub may-begin-spec : {M : Type 1} → statement M
 may-begin-spec =

@@ -10,7 +10,7 @@ use Rattle.sections.proofs.first.note_first.Statement.{statement}
 use Rattle.sections.proofs.first.note_first.Tie as tie
 
 returns : tie.Need-returns
-returns c = let a = c .before .before .before .args in sym (note-none (a .content .now) (a .first .now) (c .if1 .taken))
+returns c = let a = c .before .before .before .args in sym (note-none (a .content .now) (a .begins .now) (c .if1 .taken))
 
 shared-slice-read-wide : tie.Need-shared-slice-read-wide
 shared-slice-read-wide c = search needs
@@ -18,11 +18,11 @@ shared-slice-read-wide c = search needs
 wide-requires : tie.Need-wide-requires
 wide-requires c κs = search needs
 
-mul-first : tie.Need-mul-first
-mul-first c = search needs
+mul-begins : tie.Need-mul-begins
+mul-begins c = search needs
 
-slice-write-first : tie.Need-slice-write-first
-slice-write-first c = search needs
+slice-write-begins : tie.Need-slice-write-begins
+slice-write-begins c = search needs
 
 same-length : tie.Need-same-length
 same-length c = search needs
@@ -30,12 +30,12 @@ same-length c = search needs
 returns-2 : tie.Need-returns-2
 returns-2 c =
     let a = c .before .before .before .before .before .before .args in
-    sym (note-some (a .content .now) (a .first .now) (search needs) ∙ ap (λ (b : ℕ). set (a .first .now) b 1) (sym (c .before .wide .ensures)))
+    sym (note-some (a .content .now) (a .begins .now) (search needs) ∙ ap (λ (b : ℕ). set (a .begins .now) b 1) (sym (c .before .wide .ensures)))
 
 returns-3 : tie.Need-returns-3
 returns-3 c =
     let a = c .before .before .before .before .before .before .args in
-    sym (note-some (a .content .now) (a .first .now) (search needs) ∙ set-out (a .first .now) (getD (a .content .now) 0 0) 1 (omega (arith, c .before .wide .ensures)))
+    sym (note-some (a .content .now) (a .begins .now) (search needs) ∙ set-out (a .begins .now) (getD (a .content .now) 0 0) 1 (omega (arith, c .before .wide .ensures)))
 
 pub note-first-spec : {M : Type 1} → statement M
 note-first-spec =
@@ -44,8 +44,8 @@ note-first-spec =
     returns
     shared-slice-read-wide
     wide-requires
-    mul-first
-    slice-write-first
+    mul-begins
+    slice-write-begins
     same-length
     returns-2
     returns-3)

@@ -13,10 +13,10 @@ use Rattle.sections.proofs.seek.find_added_token.Statement.{statement}
 use Rattle.sections.proofs.seek.find_added_token.Tie as tie
 
 abbrev Inv-loop : tie.InvT-loop
-Inv-loop bytes offsets first text from place₀ place = matchBy first (strings bytes offsets) from (drop from text) ≡ matchBy first (strings bytes offsets) place (drop place text)
+Inv-loop bytes offsets begins text from place₀ place = matchBy begins (strings bytes offsets) from (drop from text) ≡ matchBy begins (strings bytes offsets) place (drop place text)
 
 abbrev μ-loop : tie.MeasureT-loop
-μ-loop bytes offsets first text from place₀ place = length text - place
+μ-loop bytes offsets begins text from place₀ place = length text - place
 
 -- the start of the call, from where the loop stands, and its contents
 abbrev start : tie.At-loop Inv-loop μ-loop → tie.Start Inv-loop μ-loop
@@ -30,12 +30,12 @@ found : (c : tie.After-token-at Inv-loop μ-loop)
     → (let t = c .before .before .before in
     let a = start t .args in
     let place = t .loop .place in
-    matchBy (a .first .now) (contents t) (a .from) (drop (a .from) (a .text .now)) ≡ placed place (foundId (c .token-at .result)) (matchBy (a .first .now) (contents t) (place + 1) (drop (place + 1) (a .text .now))))
+    matchBy (a .begins .now) (contents t) (a .from) (drop (a .from) (a .text .now)) ≡ placed place (foundId (c .token-at .result)) (matchBy (a .begins .now) (contents t) (place + 1) (drop (place + 1) (a .text .now))))
 found c =
     let t = c .before .before .before in
     let a = start t .args in
     let place = t .loop .place in
-    t .loop .inv ∙ match-next (a .first .now) (contents t) (a .text .now) place (search needs)
+    t .loop .inv ∙ match-next (a .begins .now) (contents t) (a .text .now) place (search needs)
     ∙ rw (c .token-at .ensures, part-to-end (a .text .now) place)
 
 loop-holds : tie.Need-loop-holds Inv-loop μ-loop
@@ -75,7 +75,7 @@ returns-2 : tie.Need-returns-2 Inv-loop μ-loop
 returns-2 c =
     let t = c .before in
     let a = start t .args in
-    sym (t .loop .inv ∙ match-ended (a .first .now) (contents t) (a .text .now) (t .loop .place) (search needs))
+    sym (t .loop .inv ∙ match-ended (a .begins .now) (contents t) (a .text .now) (t .loop .place) (search needs))
 
 pub find-added-token-spec : {M : Type 1} → statement M
 find-added-token-spec =

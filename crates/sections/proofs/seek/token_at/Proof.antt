@@ -14,10 +14,10 @@ use Rattle.sections.proofs.seek.token_at.Tie as tie
 -- what is sought, where the text has a byte
 sought : (c : tie.After-may-begin)
     → (let a = c .before .before .before .before .before .before .before .args in
-    rowBy (a .first .now) (strings (a .bytes .now) (a .offsets .now)) (a .text .now) ≡ cond (c .may-begin .result) (rowAt (strings (a .bytes .now) (a .offsets .now)) (a .text .now)) none)
+    rowBy (a .begins .now) (strings (a .bytes .now) (a .offsets .now)) (a .text .now) ≡ cond (c .may-begin .result) (rowAt (strings (a .bytes .now) (a .offsets .now)) (a .text .now)) none)
 sought c =
     let a = c .before .before .before .before .before .before .before .args in
-    rowBy-at (a .first .now) (strings (a .bytes .now) (a .offsets .now)) (a .text .now) (search needs) ∙ rw (c .may-begin .ensures)
+    rowBy-at (a .begins .now) (strings (a .bytes .now) (a .offsets .now)) (a .text .now) (search needs) ∙ rw (c .may-begin .ensures)
 
 returns : tie.Need-returns
 returns c = let a = c .before .before .before .before .before .args in rw (no-elements (a .text .now) (c .if1 .taken))

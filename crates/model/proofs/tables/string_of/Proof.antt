@@ -1,8 +1,8 @@
--- `units::raw::string_of` meets its contract.
+-- `model::tables::string_of` meets its contract.
 use borrow.Author.Needs.{needs}
 use Rattle.model.specs.Model.{stepString}
-use Rattle.units.proofs.raw.string_of.Statement.{statement}
-use Rattle.units.proofs.raw.string_of.Tie as tie
+use Rattle.model.proofs.tables.string_of.Statement.{statement}
+use Rattle.model.proofs.tables.string_of.Tie as tie
 
 wide-requires : tie.Need-wide-requires
 wide-requires c κs = search needs
