@@ -5,3 +5,4 @@ pub mod PassLaws
 pub mod WalkLaws
 pub mod ModelLaws
 pub mod DerivedLaws
+pub mod OutcomeLaws

@@ -1,4 +1,5 @@
 // Text to ids.
+mod finish;
 mod marks;
 mod raw;
 mod section;

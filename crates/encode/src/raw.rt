@@ -1,10 +1,14 @@
 // The two passes on the raw path, where the sections of a text are its stretches.
+use crate::finish::clear_from;
 use crate::section::count_section;
 use crate::section::encode_section;
 use crate::section::put_id;
 use merge::Symbols;
+use model::Answer;
+use model::RESULT_TOO_SHORT;
 use model::tables::part;
 use sections::Next;
+use sections::first::first_bytes;
 use sections::walk::next_item;
 use sections::walk::sections_start;
 use units::RawPrepend;
@@ -12,6 +16,7 @@ ghost use mathlib.Core.Path.{_≡_};
 ghost use mathlib.Core.Bool.{false};
 ghost use Prim.Native.Nat.{_≤_};
 ghost use lib.ListN.{length};
+ghost use Rattle.model.specs.Answers.{Outcome};
 ghost use Rattle.model.specs.Check.{badToken};
 ghost use Rattle.model.specs.Model.{contents, tokenList};
 ghost use Rattle.merge.specs.inner.Turns.{Merged};
@@ -20,7 +25,7 @@ ghost use Rattle.sections.specs.Sections.{takenApart, sections};
 ghost use Rattle.sections.specs.inner.Seek.{firstBytes};
 ghost use Rattle.encode.specs.Parts.{rawStretch};
 ghost use Rattle.encode.specs.inner.Tables.{ownIn};
-ghost use Rattle.encode.specs.inner.Passes.{partsSymbols, partsWriter};
+ghost use Rattle.encode.specs.inner.Passes.{partsSymbols, partsWriter, partsOutcome};
 
 // The starting ids of all sections and one for each token, counted up to `room`, and all drops.
 pub fn count_raw(
@@ -181,4 +186,79 @@ pub fn write_raw(
             }
         }
     }
+}
+
+// A text on the raw path, by the two derived rows: both passes, and zeros behind what was written.
+pub fn encode_raw(
+    adjacency: &[u64],
+    index: &[u32],
+    piece_bytes: &[u8],
+    piece_offsets: &[u32],
+    lookup: &[u32],
+    fallback: &[u32],
+    left: &[u32],
+    right: &[u32],
+    result: &[u32],
+    rank: &[u32],
+    bytes: &[u8],
+    offsets: &[u32],
+    ids: &[u32],
+    lstrip: &[bool],
+    rstrip: &[bool],
+    prepend: RawPrepend,
+    continuation: bool,
+    text: &[u8],
+    out: &mut [u32],
+) -> Answer
+    requires { ⌜ indexLength ≤ length (now index) ⌝ }
+    requires { ⌜ badToken (contents (tokenList (now bytes) (now offsets) (now ids) (now lstrip) (now rstrip))) ≡ false ⌝ }
+    requires { ⌜ length (now text) ≤ 1048576 ⌝ }
+    ensures { λ r. ⌜ _≡_ {A = Outcome} (record { answer = r; out = now (out .exit) }) (partsOutcome (record { adjacency = now (adjacency .entry); index = now (index .entry); pieceBytes = now («piece_bytes» .entry); pieceOffsets = now («piece_offsets» .entry); lookup = now (lookup .entry); fallback = now (fallback .entry); left = now (left .entry); right = now (right .entry); result = now (result .entry); rank = now (rank .entry) }) (takenApart (rawStretch prepend continuation (now (text .entry))) (sections (tokenList (now (bytes .entry)) (now (offsets .entry)) (now (ids .entry)) (now (lstrip .entry)) (now (rstrip .entry))) (now (text .entry)))) (now (out .entry))) ⌝ }
+{
+    let mut first = [0u32; 256];
+    first_bytes(bytes, offsets, &mut first);
+    let counted = count_raw(
+        index,
+        piece_bytes,
+        piece_offsets,
+        lookup,
+        fallback,
+        bytes,
+        offsets,
+        ids,
+        lstrip,
+        rstrip,
+        &first,
+        prepend,
+        continuation,
+        text,
+        out.len() + 1,
+    );
+    if out.len() < counted.count {
+        return Answer::refused(RESULT_TOO_SHORT, 0);
+    }
+    let written = write_raw(
+        adjacency,
+        index,
+        piece_bytes,
+        piece_offsets,
+        lookup,
+        fallback,
+        left,
+        right,
+        result,
+        rank,
+        bytes,
+        offsets,
+        ids,
+        lstrip,
+        rstrip,
+        &first,
+        prepend,
+        continuation,
+        text,
+        out,
+    );
+    clear_from(out, written);
+    Answer::done(written, counted.drops, 0)
 }

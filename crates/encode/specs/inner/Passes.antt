@@ -1,10 +1,13 @@
 -- The two passes over the parts of a text: one counts starting ids and drops, the other writes.
-use Prim.Native.Nat.{ℕ, min}
-use mathlib.Core.List.{List, [], _∷_, map}
+use Prim.Native.Nat.{ℕ, _+_, _-_, min}
+use mathlib.Core.Bool.{cond}
+use mathlib.Core.List.{List, [], _∷_, _++_, map}
 use mathlib.Core.Option.{Option}
-use lib.ListN.{length}
+use lib.Dec.{ltb}
+use lib.ListN.{length, take}
 use Rattle.utf8.specs.Lists.{joinMap, sum}
 use Rattle.utf8.specs.Lists as lists
+use Rattle.model.specs.Answers.{zeros, done, refused, Outcome}
 use Rattle.merge.specs.Start.{startingIdsBy, isDroppedBy}
 use Rattle.merge.specs.inner.Laid.{laid, markedChars}
 use Rattle.merge.specs.inner.Turns.{Merged}
@@ -12,7 +15,7 @@ use Rattle.merge.specs.declared.Symbols.{Symbols}
 use Rattle.sections.specs.Sections.{Item, token, plain}
 use Rattle.encode.specs.Parts.{Stretch}
 use Rattle.encode.specs.inner.Writers.{Writer, inTurn}
-use Rattle.encode.specs.inner.Tables.{Tables, stretchIn}
+use Rattle.encode.specs.inner.Tables.{Tables, ownIn, stretchIn}
 
 -- The starting ids of a part, and its drops; a token is one id.
 unfoldable pub partStarts : (List ℕ → Option ℕ) → List ℕ → Item Stretch → ℕ
@@ -39,3 +42,11 @@ partWriter t (plain s) = stretchIn t (s .virtual) (s .raw) (s .bytes)
 -- The second pass.
 unfoldable pub partsWriter : Tables → List (Item Stretch) → Writer
 partsWriter t parts = inTurn (map (partWriter t) parts)
+
+-- What encoding these parts leaves: 12 where starting ids and tokens outnumber the cells, and else what the second pass wrote, then zeros.
+unfoldable pub partsOutcome : Tables → List (Item Stretch) → List ℕ → Outcome
+partsOutcome t parts out =
+    let counted = partsSymbols (ownIn (t .index) (t .pieceBytes) (t .pieceOffsets) (t .lookup)) (t .fallback) parts (length out + 1) in
+    let written = partsWriter t parts out in
+    cond (ltb (length out) (counted .count)) (record { answer = refused 12 0; out = out })
+    (record { answer = done (written .count) (counted .drops) 0; out = take (written .count) (written .ids) ++ zeros (length out - written .count) })

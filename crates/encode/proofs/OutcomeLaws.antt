@@ -1,0 +1,78 @@
+-- Laws of what encoding leaves: by the two passes, and by an accepted model with its derived rows. Assumes nothing.
+use Prim.Native.Nat.{ℕ, _+_, _-_, _≤_, _<_, min}
+use native.Mathlib.Omega.{arith}
+use mathlib.Core.Path.{_≡_, refl, sym, ap, ap₂, _∙_}
+use mathlib.Core.Bool.{Bool, true, false, cond}
+use mathlib.Core.Logic.{⊎-elim}
+use mathlib.Core.List.{List, [], _∷_, _++_, map}
+use borrow.Author.Tests.{lt-ltb, le-ltb, ltb-true, ltb-false}
+use lib.Dec.{ltb}
+use lib.ListN.{length, take, length-append, length-take, length-replicate}
+use Rattle.utf8.specs.Lists.{joinMap, sum, below}
+use Rattle.utf8.proofs.Tests.{either}
+use Rattle.utf8.proofs.Fronts.{length-row}
+use Rattle.model.specs.Answers.{zeros, done, refused, filled, placeOf, Outcome, outcome}
+use Rattle.model.specs.Check.{checkNumber}
+use Rattle.model.specs.Model.{Model, TokenList, contents, strings}
+use Rattle.model.specs.declared.Answer.{Answer}
+use Rattle.merge.specs.inner.Turns.{Merged}
+use Rattle.merge.specs.declared.Symbols.{Symbols}
+use Rattle.sections.specs.Sections.{Item}
+use Rattle.sections.specs.inner.Seek.{firstBytes}
+use Rattle.encode.specs.Parts.{Stretch}
+use Rattle.encode.specs.Encode.{idsOf, startsOf, dropsOf}
+use Rattle.encode.specs.inner.Tables.{Tables, ownIn}
+use Rattle.encode.specs.inner.Passes.{partsSymbols, partsWriter, partsOutcome}
+use Rattle.encode.proofs.WriterLaws.{Each}
+use Rattle.encode.proofs.PassLaws.{keeps-parts}
+use Rattle.encode.proofs.DerivedLaws.{tablesOf, OfBytes, parts-counted, parts-written}
+
+pub first-long : (contents : List (List ℕ)) {first : List ℕ} (n : ℕ) → first ≡ firstBytes contents n → n ≡ length first
+unfolding firstBytes
+first-long contents n e = sym (ap length e ∙ length-row _ n)
+
+-- A row of first bytes knows its own length.
+pub first-own : (t : TokenList) {first : List ℕ} (n : ℕ) → first ≡ firstBytes (strings (t .bytes) (t .offsets)) n → first ≡ firstBytes (contents t) (length first)
+unfolding contents
+first-own t n e = e ∙ ap (firstBytes (strings (t .bytes) (t .offsets))) (first-long _ n e)
+
+module _ (t : Tables) (parts : List (Item Stretch)) (out : List ℕ) where
+  module _ {s : Symbols} (counted : s ≡ partsSymbols (ownIn (t .index) (t .pieceBytes) (t .pieceOffsets) (t .lookup)) (t .fallback) parts (length out + 1)) where
+    pub outcome-short : {r : Answer} → r ≡ refused 12 0 → length out < s .count → _≡_ {A = Outcome} (record { answer = r; out = out }) (partsOutcome t parts out)
+    unfolding partsOutcome
+    outcome-short e h = rw (← counted, lt-ltb (length out) (s .count) h, e)
+
+    pub outcome-written : {r : Answer} {k : ℕ} {middle last : List ℕ} → _≡_ {A = Merged} (record { count = k; ids = middle }) (partsWriter t parts out) → last ≡ take k middle ++ zeros (length middle - k)
+        → r ≡ done k (s .drops) 0 → s .count ≤ length out → _≡_ {A = Outcome} (record { answer = r; out = last }) (partsOutcome t parts out)
+    unfolding partsOutcome
+    outcome-written {k = k} {middle = middle} written is e h =
+        let long : length middle ≡ length out = ap (λ (d : Merged). length (d .ids)) written ∙ keeps-parts t parts .long out in
+        rw (← counted, le-ltb (length out) (s .count) h, ← written, e, is, long)
+
+  module _ {k : ℕ} {middle : List ℕ} (written : _≡_ {A = Merged} (record { count = k; ids = middle }) (partsWriter t parts out)) where
+    pub written-inside : k ≤ length middle
+    written-inside = omega (arith, ap (λ (d : Merged). d .count) written, keeps-parts t parts .inside out, ap (λ (d : Merged). length (d .ids)) written, keeps-parts t parts .long out)
+
+    pub cleared-long : {last : List ℕ} → last ≡ take k middle ++ zeros (length middle - k) → length last ≡ length out
+    cleared-long e =
+        omega
+        (arith, ap length e, length-append (take k middle) (zeros (length middle - k)), length-take k middle, length-replicate {A = ℕ} (length middle - k) 0, written-inside, ap (λ (d : Merged). length (d .ids)) written, keeps-parts t parts .long out)
+
+-- On an accepted model with its derived rows it is what the definitions say of these parts.
+pub outcome-meant : (m : Model) → checkNumber m ≡ 0 → (parts : List (Item Stretch)) → Each OfBytes parts → (text out : List ℕ)
+    → let number = cond {A = ℕ} (ltb (length out) (sum (map (startsOf m) parts))) 12 0 in
+    partsOutcome (tablesOf m) parts out ≡ outcome number (placeOf number text) (done (length (joinMap (idsOf m) parts)) (sum (map (dropsOf m) parts)) 0) (joinMap (idsOf m) parts) out
+unfolding partsOutcome outcome placeOf filled
+outcome-meant m fine parts small text out =
+    rw (parts-counted m fine parts small (length out + 1))
+    (⊎-elim
+    (λ t.
+    let h : length out < sum (map (startsOf m) parts) = ltb-true (length out) (sum (map (startsOf m) parts)) t in
+    let more : length out < min (sum (map (startsOf m) parts)) (length out + 1) = omega arith in
+    rw (t, lt-ltb (length out) (min (sum (map (startsOf m) parts)) (length out + 1)) more))
+    (λ f.
+    let h : sum (map (startsOf m) parts) ≤ length out = ltb-false (length out) (sum (map (startsOf m) parts)) f in
+    let fewer : min (sum (map (startsOf m) parts)) (length out + 1) ≤ length out = omega arith in
+    let w = parts-written m fine parts small in
+    rw (f, le-ltb (length out) (min (sum (map (startsOf m) parts)) (length out + 1)) fewer, w .count out h, w .front out h))
+    (either (ltb (length out) (sum (map (startsOf m) parts)))))
