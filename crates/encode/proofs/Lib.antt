@@ -3,6 +3,7 @@ pub mod WriterLaws
 pub mod StretchLaws
 pub mod PassLaws
 pub mod WalkLaws
+pub mod NormalLaws
 pub mod ModelLaws
 pub mod DerivedLaws
 pub mod OutcomeLaws
