@@ -4,6 +4,7 @@ pub mod StretchLaws
 pub mod PassLaws
 pub mod WalkLaws
 pub mod NormalLaws
+pub mod PartLaws
 pub mod ModelLaws
 pub mod DerivedLaws
 pub mod OutcomeLaws

@@ -8,6 +8,8 @@ use lib.ListN.{length, take}
 use Rattle.utf8.specs.Lists.{joinMap, sum}
 use Rattle.utf8.specs.Lists as lists
 use Rattle.model.specs.Answers.{zeros, done, refused, Outcome}
+use Rattle.model.specs.declared.Metaspace.{Metaspace}
+use Rattle.normalise.specs.Spaces.{metaspaceOutput, metaspaced}
 use Rattle.merge.specs.Start.{startingIdsBy, isDroppedBy}
 use Rattle.merge.specs.inner.Laid.{laid, markedChars}
 use Rattle.merge.specs.inner.Turns.{Merged}
@@ -15,7 +17,8 @@ use Rattle.merge.specs.declared.Symbols.{Symbols}
 use Rattle.sections.specs.Sections.{Item, token, plain}
 use Rattle.encode.specs.declared.Counted.{Counted}
 use Rattle.encode.specs.declared.Counted.the-variants.{Counts, TooLong}
-use Rattle.encode.specs.Parts.{Stretch}
+use Rattle.sections.specs.SecondList.{NormalPart}
+use Rattle.encode.specs.Parts.{Stretch, stretch}
 use Rattle.encode.specs.inner.Writers.{Writer, inTurn}
 use Rattle.encode.specs.inner.Tables.{Tables, ownIn, stretchIn}
 
@@ -62,3 +65,11 @@ counted false symbols = Counts (symbols .count) (symbols .drops)
 abbrev pub unlessLong : Bool → Merged → List ℕ → Merged
 unlessLong true written out = record { count = 0; ids = out }
 unlessLong false written out = written
+
+-- What a part of a normalized section comes to, and what metaspace puts out on its way.
+unfoldable pub partStretch : Metaspace → NormalPart → List (Item Stretch)
+partStretch metaspace part = stretch (metaspaced metaspace (part .first) (part .bytes)) false false
+
+abbrev pub partOutput : Metaspace → Item NormalPart → List (List ℕ)
+partOutput metaspace (token id) = []
+partOutput metaspace (plain part) = metaspaceOutput metaspace (part .first) (part .bytes)
