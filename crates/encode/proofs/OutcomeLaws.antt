@@ -1,14 +1,14 @@
 -- Laws of what encoding leaves: by the two passes, and by an accepted model with its derived rows. Assumes nothing.
 use Prim.Native.Nat.{ℕ, _+_, _-_, _≤_, _<_, min}
 use native.Mathlib.Omega.{arith}
-use mathlib.Core.Path.{_≡_, refl, sym, ap, ap₂, _∙_}
-use mathlib.Core.Bool.{Bool, true, false, cond}
+use mathlib.Core.Path.{_≡_, sym, ap, _∙_}
+use mathlib.Core.Bool.{Bool, cond}
 use mathlib.Core.Logic.{⊎-elim}
-use mathlib.Core.List.{List, [], _∷_, _++_, map}
+use mathlib.Core.List.{List, _++_, map}
 use borrow.Author.Tests.{lt-ltb, le-ltb, ltb-true, ltb-false}
 use lib.Dec.{ltb}
 use lib.ListN.{length, take, length-append, length-take, length-replicate}
-use Rattle.utf8.specs.Lists.{joinMap, sum, below}
+use Rattle.utf8.specs.Lists.{joinMap, sum}
 use Rattle.utf8.proofs.Tests.{either}
 use Rattle.utf8.proofs.Fronts.{length-row}
 use Rattle.model.specs.Answers.{zeros, done, refused, filled, placeOf, Outcome, outcome}

@@ -1,9 +1,9 @@
 -- A walk through the parts of a normalized section: the parts that are still to come, and that none of them outgrows the room. Assumes nothing.
-use Prim.Native.Nat.{ℕ, _<_, _≤_}
+use Prim.Native.Nat.{ℕ, _<_}
 use native.Mathlib.Omega.{arith}
-use mathlib.Core.Path.{_≡_, refl, sym, ap, _∙_}
-use mathlib.Core.Bool.{Bool, true, false, _||_}
-use mathlib.Core.List.{List, [], _∷_, _++_}
+use mathlib.Core.Path.{_≡_, sym, ap, _∙_}
+use mathlib.Core.Bool.{Bool, true, false}
+use mathlib.Core.List.{List, [], _∷_}
 use lib.Dec.{ltb}
 use lib.ListN.{length}
 use lib.Seq.{slice}
@@ -16,17 +16,17 @@ use Rattle.model.specs.declared.Metaspace.{Metaspace}
 use Rattle.normalise.specs.Normalise.{outgrows}
 use Rattle.normalise.specs.Spaces.{metaspaceOutput, metaspaced}
 use Rattle.merge.specs.inner.Turns.{Merged}
-use Rattle.sections.specs.Sections.{Item, token, plain, takenApart}
-use Rattle.sections.specs.SecondList.{NormalPart, normalParts}
+use Rattle.sections.specs.Sections.{Item, token, plain}
+use Rattle.sections.specs.SecondList.{NormalPart}
 use Rattle.sections.specs.inner.Seek.{firstBytes}
-use Rattle.sections.specs.inner.Walk.{nextItem, partsStart}
+use Rattle.sections.specs.inner.Walk.{nextItem}
 use Rattle.sections.specs.declared.Cursor.{Cursor}
 use Rattle.sections.specs.declared.Next.{Next}
 use Rattle.sections.specs.declared.Next.the-variants.{Plain, Added, Finished}
 use Rattle.sections.proofs.SeekLaws.{first-sound}
-use Rattle.sections.proofs.PartLaws.{partsLeft, partsGiven, parts-start, parts-step}
+use Rattle.sections.proofs.PartLaws.{partsLeft, partsGiven, parts-step}
 use Rattle.sections.proofs.StepLaws.{stepsLeft, stepsGiven, fewer-steps}
-use Rattle.encode.specs.Parts.{Stretch, stretch}
+use Rattle.encode.specs.Parts.{stretch}
 use Rattle.encode.specs.inner.Tables.{Tables}
 use Rattle.encode.specs.inner.Passes.{partsWriter, unlessLong, partStretch, partOutput}
 

@@ -14,7 +14,7 @@ use Rattle.sections.proofs.StepLaws.{stepsLeft}
 use Rattle.sections.proofs.PartLaws.{partsLeft, parts-start}
 use Rattle.encode.specs.Parts.{Stretch}
 use Rattle.encode.specs.inner.Tables.{Tables}
-use Rattle.encode.specs.inner.Passes.{partWriter, partsWriter, partStretch}
+use Rattle.encode.specs.inner.Passes.{partWriter, partStretch}
 use Rattle.encode.proofs.WriterLaws.{Going, going-start}
 use Rattle.encode.proofs.PassLaws.{parts-on, parts-fit, token-on, token-fit, parts-ended}
 use Rattle.encode.proofs.PartLaws.{Short, short-head, short-rest, part-next, added-next, none-next, part-fewer, added-fewer, part-put}
