@@ -1,5 +1,5 @@
 -- What the passes find by the rows that are derived of an accepted model is what the model says. Assumes nothing.
-use Prim.Native.Nat.{ℕ, _+_, _-_, _≤_, _<_, min}
+use Prim.Native.Nat.{ℕ, _+_, _-_, min}
 use native.Mathlib.Omega.{arith}
 use mathlib.Core.Path.{_≡_, refl, sym, ap, ap₂, _∙_, subst}
 use mathlib.Core.Bool.{Bool, true, false, cond}
@@ -25,7 +25,7 @@ use Rattle.units.specs.declared.WordSplit.the-variants.{SpaceRuns, EveryMark, N
 use Rattle.units.specs.declared.RawPrepend.{RawPrepend}
 use Rattle.units.proofs.AdjacencyLaws.{Small}
 use Rattle.merge.specs.Start.{startingIdsBy}
-use Rattle.merge.specs.inner.Laid.{laid, ownFound, markedChars, unitSymbols}
+use Rattle.merge.specs.inner.Laid.{ownFound, markedChars, unitSymbols}
 use Rattle.merge.specs.inner.Turns.{rowIn}
 use Rattle.merge.specs.declared.Symbols.{Symbols}
 use Rattle.merge.proofs.Laying.{laid-fits}

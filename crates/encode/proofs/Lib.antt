@@ -3,6 +3,8 @@ pub mod WriterLaws
 pub mod StretchLaws
 pub mod PassLaws
 pub mod WalkLaws
+pub mod NormalLaws
+pub mod PartLaws
 pub mod ModelLaws
 pub mod DerivedLaws
 pub mod OutcomeLaws

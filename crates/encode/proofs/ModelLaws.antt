@@ -1,22 +1,20 @@
 -- What is counted and written of a stretch by the tables that are derived from an accepted model is what the definitions say. Assumes nothing.
-use Prim.Native.Nat.{ℕ, suc, _+_, _-_, _≤_, _<_, min}
+use Prim.Native.Nat.{ℕ, _+_, _-_, _<_, min}
 use native.Mathlib.Omega.{arith}
-use native.Mathlib.Nat.{zero-add}
 use mathlib.Core.Path.{_≡_, refl, sym, ap, ap₂, _∙_, fun-ext, subst}
 use mathlib.Core.Bool.{Bool, true, false, cond}
 use mathlib.Core.Logic.{⊎-elim}
-use mathlib.Core.Option.{Option}
 use mathlib.Core.List.{List, [], _∷_, _++_, map}
 use borrow.Author.Tests.{ltb-true, ltb-false}
 use lib.Dec.{ltb}
-use lib.ListN.{length, getD, length-append, length-map, List·getD-append, List·getD-eq-default}
+use lib.ListN.{length, length-append, length-map, List·getD-append, List·getD-eq-default}
 use lib.Seq.{getD-append-add}
 use Rattle.utf8.specs.Lists.{join, joinMap, count, sum, filter, below}
 use Rattle.utf8.specs.Chars.{chars}
 use Rattle.utf8.proofs.Tests.{either}
 use Rattle.utf8.proofs.Places.{length-between}
 use Rattle.utf8.proofs.Joins.{joinMap-append}
-use Rattle.model.specs.Model.{Model, Row, piecesOf, rowOf, mergeRows}
+use Rattle.model.specs.Model.{Model, piecesOf, rowOf, mergeRows}
 use Rattle.model.specs.Mark.{mark}
 use Rattle.model.specs.Check.{checkNumber}
 use Rattle.model.proofs.Accepted.{Accepted, accepted}
@@ -32,14 +30,14 @@ use Rattle.units.proofs.DerivedLaws.{piece-sizes-fine, accepted-sizes, cut-deri
 use Rattle.merge.specs.Start.{vocabularyOf, startingIds, isDropped, asMark, unitChars, withVirtualMark}
 use Rattle.merge.specs.Merge.{merged}
 use Rattle.merge.specs.inner.Laid.{Laid, markedChars, unitLaid, unitSymbols}
-use Rattle.merge.specs.inner.Turns.{Merged, mergedFront}
+use Rattle.merge.specs.inner.Turns.{mergedFront}
 use Rattle.merge.specs.declared.Symbols.{Symbols}
 use Rattle.merge.proofs.ModelLaws.{ownBy, rowBy, front-by-model, laid-by-model, symbols-by-model}
 use Rattle.sections.specs.Sections.{plain}
 use Rattle.encode.specs.Parts.{Stretch}
 use Rattle.encode.specs.Encode.{stretchUnits, unitIds, idsOf, startsOf, dropsOf}
-use Rattle.encode.specs.inner.Writers.{Writer, merging, unitWriter, inTurn, unitWriters, stretchWriter}
-use Rattle.encode.proofs.WriterLaws.{Keeps, keeps-merging, Fits, fits-merging, each, fits-all}
+use Rattle.encode.specs.inner.Writers.{Writer, merging, unitWriter, unitWriters, stretchWriter}
+use Rattle.encode.proofs.WriterLaws.{keeps-merging, Fits, fits-merging, each, fits-all}
 use Rattle.encode.proofs.PassLaws.{map-append}
 
 -- ---- the characters of a stretch, whatever its units

@@ -1,31 +1,35 @@
 -- Laws of what encoding leaves: by the two passes, and by an accepted model with its derived rows. Assumes nothing.
 use Prim.Native.Nat.{ℕ, _+_, _-_, _≤_, _<_, min}
 use native.Mathlib.Omega.{arith}
-use mathlib.Core.Path.{_≡_, refl, sym, ap, ap₂, _∙_}
-use mathlib.Core.Bool.{Bool, true, false, cond}
+use mathlib.Core.Path.{_≡_, sym, ap, _∙_}
+use mathlib.Core.Bool.{Bool, cond}
 use mathlib.Core.Logic.{⊎-elim}
-use mathlib.Core.List.{List, [], _∷_, _++_, map}
+use mathlib.Core.List.{List, _++_, map}
 use borrow.Author.Tests.{lt-ltb, le-ltb, ltb-true, ltb-false}
 use lib.Dec.{ltb}
 use lib.ListN.{length, take, length-append, length-take, length-replicate}
-use Rattle.utf8.specs.Lists.{joinMap, sum, below}
+use Rattle.utf8.specs.Lists.{joinMap, sum}
 use Rattle.utf8.proofs.Tests.{either}
 use Rattle.utf8.proofs.Fronts.{length-row}
 use Rattle.model.specs.Answers.{zeros, done, refused, filled, placeOf, Outcome, outcome}
 use Rattle.model.specs.Check.{checkNumber}
 use Rattle.model.specs.Model.{Model, TokenList, contents, strings}
 use Rattle.model.specs.declared.Answer.{Answer}
+use Rattle.units.specs.Kinds.{rawPath}
+use Rattle.units.specs.declared.RawPrepend.{RawPrepend}
+use Rattle.units.specs.declared.RawPath.the-variants.{Present}
+use Rattle.units.proofs.AdjacencyLaws.{Small}
 use Rattle.merge.specs.inner.Turns.{Merged}
 use Rattle.merge.specs.declared.Symbols.{Symbols}
-use Rattle.sections.specs.Sections.{Item}
+use Rattle.sections.specs.Sections.{Item, takenApart, sections}
 use Rattle.sections.specs.inner.Seek.{firstBytes}
-use Rattle.encode.specs.Parts.{Stretch}
-use Rattle.encode.specs.Encode.{idsOf, startsOf, dropsOf}
+use Rattle.encode.specs.Parts.{Stretch, rawStretch, stretchesOf, parts}
+use Rattle.encode.specs.Encode.{idsOf, encodedIds, dropsOf, drops, startsOf, startingCount}
 use Rattle.encode.specs.inner.Tables.{Tables, ownIn}
 use Rattle.encode.specs.inner.Passes.{partsSymbols, partsWriter, partsOutcome}
 use Rattle.encode.proofs.WriterLaws.{Each}
 use Rattle.encode.proofs.PassLaws.{keeps-parts}
-use Rattle.encode.proofs.DerivedLaws.{tablesOf, OfBytes, parts-counted, parts-written}
+use Rattle.encode.proofs.DerivedLaws.{tablesOf, OfBytes, raw-bytes, parts-counted, parts-written}
 
 pub first-long : (contents : List (List ℕ)) {first : List ℕ} (n : ℕ) → first ≡ firstBytes contents n → n ≡ length first
 unfolding firstBytes
@@ -76,3 +80,12 @@ outcome-meant m fine parts small text out =
     let w = parts-written m fine parts small in
     rw (f, le-ltb (length out) (min (sum (map (startsOf m) parts)) (length out + 1)) fewer, w .count out h, w .front out h))
     (either (ltb (length out) (sum (map (startsOf m) parts)))))
+
+-- So on the raw path it is the outcome of the text.
+pub raw-meant : (m : Model) → checkNumber m ≡ 0 → (prepend : RawPrepend) → rawPath m ≡ Present prepend → (continuation : Bool) (text : List ℕ) → Small text → (out : List ℕ)
+    → let number = cond {A = ℕ} (ltb (length out) (startingCount m continuation text)) 12 0 in
+    partsOutcome (tablesOf m) (takenApart (rawStretch prepend continuation text) (sections (m .first) text)) out
+    ≡ outcome number (placeOf number text) (done (length (encodedIds m continuation text)) (drops m continuation text) 0) (encodedIds m continuation text) out
+unfolding startingCount encodedIds drops parts stretchesOf
+raw-meant m fine prepend e continuation text small out =
+    rw e (outcome-meant m fine (takenApart (rawStretch prepend continuation text) (sections (m .first) text)) (raw-bytes prepend continuation text small (sections (m .first) text)) text out)

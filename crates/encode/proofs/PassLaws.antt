@@ -3,7 +3,7 @@ use Prim.Native.Nat.{ℕ, zero, suc, _+_, _-_, _≤_, _<_, min, max}
 use native.Mathlib.Omega.{arith}
 use native.Mathlib.Nat.{add-zero, zero-add, zero-min}
 use mathlib.Core.Path.{_≡_, refl, sym, ap, ap₂, _∙_, subst}
-use mathlib.Core.Bool.{Bool, true, false, not, cond, _&&_, and-false}
+use mathlib.Core.Bool.{Bool, true, false, not, cond, and-false}
 use mathlib.Core.Option.{Option}
 use mathlib.Core.List.{List, [], _∷_, _++_, map}
 use borrow.Author.Tests.{not-true, not-false, ne-eqb, lt-ltb}
@@ -86,25 +86,25 @@ module _ (prepend : RawPrepend) (continuation opening : Bool) (bytes : List ℕ)
 
 -- ---- one section
 
-module _ (own : List ℕ → Option ℕ) (fallback : List ℕ) (bytes : List ℕ) (virtual : Bool) (room : ℕ) where
-  pub nothing-counted : length bytes ≡ 0 → _≡_ {A = Symbols} (record { count = 0; drops = 0 }) (partsSymbols own fallback (stretch bytes virtual true) room)
+module _ (own : List ℕ → Option ℕ) (fallback : List ℕ) (bytes : List ℕ) (virtual raw : Bool) (room : ℕ) where
+  pub nothing-counted : length bytes ≡ 0 → _≡_ {A = Symbols} (record { count = 0; drops = 0 }) (partsSymbols own fallback (stretch bytes virtual raw) room)
   unfolding partsSymbols stretch
   nothing-counted e = rw (empty-by-length bytes, e) (rw (zero-min room))
 
-  pub section-counted : (length bytes ≡ 0 → ⊥) → unitSymbols own fallback (markedChars virtual true bytes) room ≡ partsSymbols own fallback (stretch bytes virtual true) room
+  pub section-counted : (length bytes ≡ 0 → ⊥) → unitSymbols own fallback (markedChars virtual raw bytes) room ≡ partsSymbols own fallback (stretch bytes virtual raw) room
   unfolding partsSymbols stretch unitSymbols partStarts partDrops
-  section-counted e = rw (empty-by-length bytes, ne-eqb (length bytes) 0 e) (rw (add-zero (length (joinMap (startingIdsBy own fallback) (markedChars virtual true bytes))), add-zero (lists.count (isDroppedBy own fallback) (markedChars virtual true bytes))))
+  section-counted e = rw (empty-by-length bytes, ne-eqb (length bytes) 0 e) (rw (add-zero (length (joinMap (startingIdsBy own fallback) (markedChars virtual raw bytes))), add-zero (lists.count (isDroppedBy own fallback) (markedChars virtual raw bytes))))
 
 -- The count by the index.
-pub section-found : (index pieceBytes pieceOffsets lookup fallback bytes : List ℕ) (virtual : Bool) (room : ℕ) {mark : Bool} {id : ℕ} {s : Symbols}
-    → s ≡ unitSymbols (ownFound pieceBytes pieceOffsets lookup (words firstBytesAt bucketsAt index) id) fallback (markedChars mark true bytes) room
-    → id ≡ getD index markIdAt 0 → mark ≡ virtual → (length bytes ≡ 0 → ⊥)
-    → s ≡ partsSymbols (ownIn index pieceBytes pieceOffsets lookup) fallback (stretch bytes virtual true) room
+pub stretch-told : (index pieceBytes pieceOffsets lookup fallback bytes : List ℕ) (virtual raw : Bool) (room : ℕ) {id : ℕ} {s : Symbols}
+    → s ≡ unitSymbols (ownFound pieceBytes pieceOffsets lookup (words firstBytesAt bucketsAt index) id) fallback (markedChars virtual raw bytes) room
+    → id ≡ getD index markIdAt 0 → (length bytes ≡ 0 → ⊥)
+    → s ≡ partsSymbols (ownIn index pieceBytes pieceOffsets lookup) fallback (stretch bytes virtual raw) room
 unfolding ownIn
-section-found index pieceBytes pieceOffsets lookup fallback bytes virtual room e i v some =
+stretch-told index pieceBytes pieceOffsets lookup fallback bytes virtual raw room e i some =
     e
-    ∙ ap₂ (λ (id : ℕ) (mark : Bool). unitSymbols (ownFound pieceBytes pieceOffsets lookup (words firstBytesAt bucketsAt index) id) fallback (markedChars mark true bytes) room) i v
-    ∙ section-counted (ownIn index pieceBytes pieceOffsets lookup) fallback bytes virtual room some
+    ∙ ap (λ (id : ℕ). unitSymbols (ownFound pieceBytes pieceOffsets lookup (words firstBytesAt bucketsAt index) id) fallback (markedChars virtual raw bytes) room) i
+    ∙ section-counted (ownIn index pieceBytes pieceOffsets lookup) fallback bytes virtual raw room some
 
 -- The writer by the index.
 pub stretch-found : (t : Tables) (virtual raw : Bool) (bytes out : List ℕ) {kind : WordSplit} {count id shift : ℕ} {done : Merged}
@@ -121,17 +121,23 @@ keeps-stretch t virtual raw bytes =
     let own = ownIn (t .index) (t .pieceBytes) (t .pieceOffsets) (t .lookup) in
     keeps-all (unitWriter (rowsIn t) own (t .fallback)) (keeps-unit (rowsIn t) own (t .fallback)) (withVirtualMark virtual (map (unitChars raw) (unitsFrom (cutsIn t raw bytes) bytes 0)))
 
-module _ (t : Tables) (bytes : List ℕ) (virtual : Bool) (out : List ℕ) where
-  pub nothing-written : length bytes ≡ 0 → _≡_ {A = Merged} (record { count = 0; ids = out }) (partsWriter t (stretch bytes virtual true) out)
+module _ (t : Tables) (bytes : List ℕ) (virtual raw : Bool) (out : List ℕ) where
+  pub nothing-written : length bytes ≡ 0 → _≡_ {A = Merged} (record { count = 0; ids = out }) (partsWriter t (stretch bytes virtual raw) out)
   unfolding partsWriter stretch inTurn
   nothing-written e = rw (empty-by-length bytes, e)
 
-  pub section-written : (length bytes ≡ 0 → ⊥) → stretchIn t virtual true bytes out ≡ partsWriter t (stretch bytes virtual true) out
+  pub section-written : (length bytes ≡ 0 → ⊥) → stretchIn t virtual raw bytes out ≡ partsWriter t (stretch bytes virtual raw) out
   unfolding partsWriter stretch partWriter
-  section-written e = rw (empty-by-length bytes, ne-eqb (length bytes) 0 e) (sym (turn-one (stretchIn t virtual true bytes) out))
+  section-written e = rw (empty-by-length bytes, ne-eqb (length bytes) 0 e) (sym (turn-one (stretchIn t virtual raw bytes) out))
 
-  pub section-put : {mark : Bool} {done : Merged} → done ≡ stretchIn t mark true bytes out → mark ≡ virtual → (length bytes ≡ 0 → ⊥) → done ≡ partsWriter t (stretch bytes virtual true) out
-  section-put e v some = e ∙ ap (λ (mark : Bool). stretchIn t mark true bytes out) v ∙ section-written some
+-- The same by a virtual mark that was found.
+pub counted-marked : (own : List ℕ → Option ℕ) (fallback bytes : List ℕ) (virtual raw : Bool) (room : ℕ) {mark : Bool} {s : Symbols}
+    → s ≡ partsSymbols own fallback (stretch bytes mark raw) room → mark ≡ virtual → s ≡ partsSymbols own fallback (stretch bytes virtual raw) room
+counted-marked own fallback bytes virtual raw room e v = e ∙ ap (λ (mark : Bool). partsSymbols own fallback (stretch bytes mark raw) room) v
+
+pub written-marked : (t : Tables) (bytes : List ℕ) (virtual raw : Bool) (out : List ℕ) {mark : Bool} {done : Merged}
+    → done ≡ partsWriter t (stretch bytes mark raw) out → mark ≡ virtual → done ≡ partsWriter t (stretch bytes virtual raw) out
+written-marked t bytes virtual raw out e v = e ∙ ap (λ (mark : Bool). partsWriter t (stretch bytes mark raw) out) v
 
 -- ---- one token
 

@@ -1,8 +1,8 @@
 -- Laws of a stretch's units, one after the other. Assumes nothing.
 use Prim.Native.Nat.{ℕ, suc, _+_, _-_, _≤_, _<_}
 use native.Mathlib.Omega.{arith}
-use mathlib.Core.Path.{_≡_, refl, sym, ap, _∙_}
-use mathlib.Core.Bool.{Bool, true, false, cond}
+use mathlib.Core.Path.{_≡_, refl, ap, _∙_}
+use mathlib.Core.Bool.{Bool, false}
 use mathlib.Core.Logic.{⊎-elim}
 use mathlib.Core.Option.{Option}
 use mathlib.Core.List.{List, [], _∷_, _++_, map}
@@ -18,7 +18,7 @@ use Rattle.units.specs.Next.{nextUnit, unitsFrom}
 use Rattle.units.proofs.NextLaws.{next-past, next-above, next-within, units-more, units-last}
 use Rattle.merge.specs.Start.{unitChars, withVirtualMark}
 use Rattle.merge.specs.inner.Laid.{markedChars}
-use Rattle.encode.specs.inner.Writers.{Writer, unitWriter, unitWriters}
+use Rattle.encode.specs.inner.Writers.{unitWriter, unitWriters}
 
 -- The unit that starts at from ends at next, where the next one starts or the section ends.
 pub record NextUnit (cuts : ℕ → Bool) (section : List ℕ) (from next : ℕ) : Type 0 where

@@ -1,7 +1,7 @@
 -- A walk through a text's sections, as the parts that are still to come. Assumes nothing.
 use Prim.Native.Nat.{ℕ, _+_, _*_, _-_, _<_, _≤_}
 use native.Mathlib.Omega.{arith}
-use mathlib.Core.Path.{_≡_, refl, sym, ap, _∙_}
+use mathlib.Core.Path.{_≡_, sym, ap, _∙_}
 use mathlib.Core.Bool.{Bool, true, false, cond}
 use mathlib.Core.List.{List, [], _∷_, _++_}
 use lib.Dec.{eqb}
@@ -9,14 +9,14 @@ use lib.ListN.{length, length-take, length-drop, take}
 use lib.Seq.{slice}
 use Rattle.model.specs.Model.{TokenList, contents}
 use Rattle.model.specs.Check.{badToken}
-use Rattle.sections.specs.Sections.{Item, token, plain, takenApart, Section, sections}
+use Rattle.sections.specs.Sections.{Item, token, takenApart, Section, sections}
 use Rattle.sections.specs.inner.Seek.{firstBytes}
 use Rattle.sections.specs.inner.Walk.{nextItem, sectionsStart}
 use Rattle.sections.specs.declared.Cursor.{Cursor}
 use Rattle.sections.specs.declared.Cursor.the-variants.{Whole, Seek}
 use Rattle.sections.specs.declared.Next.{Next}
 use Rattle.sections.specs.declared.Next.the-variants.{Plain, Added, Finished}
-use Rattle.sections.proofs.SeekLaws.{Sound, first-sound}
+use Rattle.sections.proofs.SeekLaws.{first-sound}
 use Rattle.sections.proofs.SectionLaws.{sectionsLeft, sectionsGiven, sections-start, sections-step}
 use Rattle.sections.proofs.StepLaws.{stepsLeft, stepsGiven, fewer-steps}
 use Rattle.encode.specs.Parts.{Stretch}

@@ -1,12 +1,12 @@
 -- Laws of writing in turn: from writer to writer, and what stands at the front where there is room for all starting ids. Assumes nothing.
-use Prim.Native.Nat.{ℕ, suc, _+_, _-_, _≤_, _<_, min}
+use Prim.Native.Nat.{ℕ, _+_, _-_, _≤_, min}
 use native.Mathlib.Nat.{add-zero, zero-add}
 use native.Mathlib.Omega.{arith}
 use mathlib.Core.Path.{_≡_, refl, sym, ap, ap₂, _∙_}
 use mathlib.Core.Option.{Option, none, some}
 use mathlib.Core.List.{List, [], _∷_, _++_, map, append-assoc, append-nil}
 use lib.ListN.{length, take, drop, length-append, length-take, length-drop, take-append-drop, drop-of-length-le, length-replicate}
-use lib.Seq.{length-take-le, take-append-add, drop-append-add, take-at, drop-drop}
+use lib.Seq.{length-take-le, take-append-add, drop-append-add, take-at}
 use Rattle.utf8.specs.Lists.{joinMap, sum}
 use Rattle.utf8.proofs.Lists.{part-to-end}
 use Rattle.model.specs.Model.{Row}

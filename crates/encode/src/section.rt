@@ -1,9 +1,8 @@
 // One section on the raw path.
 use crate::marks::virtual_mark;
+use crate::stretch::count_stretch;
 use crate::stretch::encode_stretch;
 use merge::Symbols;
-use merge::start::count_symbols;
-use model::tables::number_at;
 use units::RawPrepend;
 ghost use mathlib.Core.Path.{_≡_};
 ghost use mathlib.Core.Bool.{true};
@@ -15,7 +14,7 @@ ghost use Rattle.encode.specs.Parts.{virtualMark, stretch};
 ghost use Rattle.encode.specs.inner.Tables.{ownIn};
 ghost use Rattle.encode.specs.inner.Passes.{partsSymbols, idWriter, partsWriter};
 
-// Its starting ids, counted up to `room`, and its drops.
+// The starting ids of a section, counted up to `room`, and its drops.
 pub fn count_section(
     index: &[u32],
     piece_bytes: &[u8],
@@ -31,19 +30,13 @@ pub fn count_section(
     requires { ⌜ indexLength ≤ length (now index) ⌝ }
     ensures { λ r. ⌜ r ≡ partsSymbols (ownIn (now (index .entry)) (now («piece_bytes» .entry)) (now («piece_offsets» .entry)) (now (lookup .entry))) (now (fallback .entry)) (stretch (now (section .entry)) (virtualMark prepend continuation opening (now (section .entry))) true) room ⌝ }
 {
-    if section.len() == 0 {
-        return Symbols { count: 0, drops: 0 };
-    }
     let mark = virtual_mark(prepend, continuation, opening, section);
-    let first_bytes = &index[prepare::FIRST_BYTES_AT..prepare::BUCKETS_AT];
-    let mark_id = number_at(index, prepare::MARK_ID_AT);
-    count_symbols(
+    count_stretch(
+        index,
         piece_bytes,
         piece_offsets,
         lookup,
         fallback,
-        first_bytes,
-        mark_id,
         section,
         true,
         mark,
@@ -51,7 +44,7 @@ pub fn count_section(
     )
 }
 
-// Its ids into the front of `out`. Answers how many there are.
+// The ids of a section into the front of `out`. Answers how many there are.
 pub fn encode_section(
     adjacency: &[u64],
     index: &[u32],
@@ -72,9 +65,6 @@ pub fn encode_section(
     requires { ⌜ indexLength ≤ length (now index) ⌝ }
     ensures { λ n. ⌜ _≡_ {A = Merged} (record { count = n; ids = now (out .exit) }) (partsWriter (record { adjacency = now (adjacency .entry); index = now (index .entry); pieceBytes = now («piece_bytes» .entry); pieceOffsets = now («piece_offsets» .entry); lookup = now (lookup .entry); fallback = now (fallback .entry); left = now (left .entry); right = now (right .entry); result = now (result .entry); rank = now (rank .entry) }) (stretch (now (section .entry)) (virtualMark prepend continuation opening (now (section .entry))) true) (now (out .entry))) ⌝ }
 {
-    if section.len() == 0 {
-        return 0;
-    }
     let mark = virtual_mark(prepend, continuation, opening, section);
     encode_stretch(
         adjacency,

@@ -1,5 +1,7 @@
 // A stretch of bytes: its units one after the other.
 use crate::unit::encode_unit;
+use merge::Symbols;
+use merge::start::count_symbols;
 use model::tables::number_at;
 use model::tables::wide;
 use prepare::numbers::kind_from;
@@ -16,7 +18,9 @@ ghost use Rattle.merge.specs.inner.Laid.{ownFound};
 ghost use Rattle.merge.specs.inner.Turns.{rowIn, Merged};
 ghost use Rattle.prepare.specs.Layout.{indexLength};
 ghost use Rattle.encode.specs.inner.Writers.{stretchWriter};
-ghost use Rattle.encode.specs.inner.Tables.{stretchIn};
+ghost use Rattle.encode.specs.Parts.{stretch};
+ghost use Rattle.encode.specs.inner.Tables.{ownIn, stretchIn};
+ghost use Rattle.encode.specs.inner.Passes.{partsSymbols, partsWriter};
 
 // The ids of a stretch into the front of `out`, each unit's behind those of the last. Answers how many there are.
 pub fn encode_units(
@@ -86,7 +90,7 @@ pub fn encode_units(
 }
 
 // The same by the two derived rows.
-pub fn encode_stretch(
+fn encode_by_rows(
     adjacency: &[u64],
     index: &[u32],
     piece_bytes: &[u8],
@@ -133,5 +137,80 @@ pub fn encode_stretch(
         raw,
         virtual_mark,
         out,
+    )
+}
+
+// The ids of a stretch by the two derived rows; no bytes give none, not even a virtual mark.
+pub fn encode_stretch(
+    adjacency: &[u64],
+    index: &[u32],
+    piece_bytes: &[u8],
+    piece_offsets: &[u32],
+    lookup: &[u32],
+    fallback: &[u32],
+    left: &[u32],
+    right: &[u32],
+    result: &[u32],
+    rank: &[u32],
+    section: &[u8],
+    raw: bool,
+    virtual_mark: bool,
+    out: &mut [u32],
+) -> usize
+    requires { ⌜ indexLength ≤ length (now index) ⌝ }
+    ensures { λ n. ⌜ _≡_ {A = Merged} (record { count = n; ids = now (out .exit) }) (partsWriter (record { adjacency = now (adjacency .entry); index = now (index .entry); pieceBytes = now («piece_bytes» .entry); pieceOffsets = now («piece_offsets» .entry); lookup = now (lookup .entry); fallback = now (fallback .entry); left = now (left .entry); right = now (right .entry); result = now (result .entry); rank = now (rank .entry) }) (stretch (now (section .entry)) «virtual_mark» raw) (now (out .entry))) ⌝ }
+{
+    if section.len() == 0 {
+        return 0;
+    }
+    encode_by_rows(
+        adjacency,
+        index,
+        piece_bytes,
+        piece_offsets,
+        lookup,
+        fallback,
+        left,
+        right,
+        result,
+        rank,
+        section,
+        raw,
+        virtual_mark,
+        out,
+    )
+}
+
+// Its starting ids, counted up to `room`, and its drops.
+pub fn count_stretch(
+    index: &[u32],
+    piece_bytes: &[u8],
+    piece_offsets: &[u32],
+    lookup: &[u32],
+    fallback: &[u32],
+    section: &[u8],
+    raw: bool,
+    virtual_mark: bool,
+    room: usize,
+) -> Symbols
+    requires { ⌜ indexLength ≤ length (now index) ⌝ }
+    ensures { λ r. ⌜ r ≡ partsSymbols (ownIn (now (index .entry)) (now («piece_bytes» .entry)) (now («piece_offsets» .entry)) (now (lookup .entry))) (now (fallback .entry)) (stretch (now (section .entry)) «virtual_mark» raw) room ⌝ }
+{
+    if section.len() == 0 {
+        return Symbols { count: 0, drops: 0 };
+    }
+    let first_bytes = &index[prepare::FIRST_BYTES_AT..prepare::BUCKETS_AT];
+    let mark_id = number_at(index, prepare::MARK_ID_AT);
+    count_symbols(
+        piece_bytes,
+        piece_offsets,
+        lookup,
+        fallback,
+        first_bytes,
+        mark_id,
+        section,
+        raw,
+        virtual_mark,
+        room,
     )
 }

@@ -1,6 +1,6 @@
 -- The two passes over the parts of a text: one counts starting ids and drops, the other writes.
 use Prim.Native.Nat.{ℕ, _+_, _-_, min}
-use mathlib.Core.Bool.{cond}
+use mathlib.Core.Bool.{Bool, true, false, cond}
 use mathlib.Core.List.{List, [], _∷_, _++_, map}
 use mathlib.Core.Option.{Option}
 use lib.Dec.{ltb}
@@ -8,12 +8,17 @@ use lib.ListN.{length, take}
 use Rattle.utf8.specs.Lists.{joinMap, sum}
 use Rattle.utf8.specs.Lists as lists
 use Rattle.model.specs.Answers.{zeros, done, refused, Outcome}
+use Rattle.model.specs.declared.Metaspace.{Metaspace}
+use Rattle.normalise.specs.Spaces.{metaspaceOutput, metaspaced}
 use Rattle.merge.specs.Start.{startingIdsBy, isDroppedBy}
 use Rattle.merge.specs.inner.Laid.{laid, markedChars}
 use Rattle.merge.specs.inner.Turns.{Merged}
 use Rattle.merge.specs.declared.Symbols.{Symbols}
 use Rattle.sections.specs.Sections.{Item, token, plain}
-use Rattle.encode.specs.Parts.{Stretch}
+use Rattle.encode.specs.declared.Counted.{Counted}
+use Rattle.encode.specs.declared.Counted.the-variants.{Counts, TooLong}
+use Rattle.sections.specs.SecondList.{NormalPart}
+use Rattle.encode.specs.Parts.{Stretch, stretch}
 use Rattle.encode.specs.inner.Writers.{Writer, inTurn}
 use Rattle.encode.specs.inner.Tables.{Tables, ownIn, stretchIn}
 
@@ -50,3 +55,21 @@ partsOutcome t parts out =
     let written = partsWriter t parts out in
     cond (ltb (length out) (counted .count)) (record { answer = refused 12 0; out = out })
     (record { answer = done (written .count) (counted .drops) 0; out = take (written .count) (written .ids) ++ zeros (length out - written .count) })
+
+-- What a pass that normalizes finds: nothing, where an output is too long.
+abbrev pub counted : Bool → Symbols → Counted
+counted true symbols = TooLong
+counted false symbols = Counts (symbols .count) (symbols .drops)
+
+-- The same for what it writes.
+abbrev pub unlessLong : Bool → Merged → List ℕ → Merged
+unlessLong true written out = record { count = 0; ids = out }
+unlessLong false written out = written
+
+-- What a part of a normalized section comes to, and what metaspace puts out on its way.
+unfoldable pub partStretch : Metaspace → NormalPart → List (Item Stretch)
+partStretch metaspace part = stretch (metaspaced metaspace (part .first) (part .bytes)) false false
+
+abbrev pub partOutput : Metaspace → Item NormalPart → List (List ℕ)
+partOutput metaspace (token id) = []
+partOutput metaspace (plain part) = metaspaceOutput metaspace (part .first) (part .bytes)

@@ -2,8 +2,7 @@
 -- drops leave room for those that the steps left can bring.
 use Prim.Native.Nat.{ℕ, _+_, _-_, _*_, _≤_}
 use native.Mathlib.Omega.{arith}
-use mathlib.Core.Path.{_≡_, ap, _∙_}
-use mathlib.Core.Bool.{Bool}
+use mathlib.Core.Path.{ap, _∙_}
 use mathlib.Core.List.{List}
 use mathlib.Core.Option.{Option}
 use borrow.Author.Needs.{needs}
@@ -11,7 +10,7 @@ use lib.ListN.{length}
 use Rattle.model.specs.Model.{TokenList, tokenList}
 use Rattle.sections.specs.Sections.{Item, takenApart, Section, sections}
 use Rattle.sections.proofs.StepLaws.{stepsLeft}
-use Rattle.encode.specs.Parts.{Stretch, virtualMark, rawStretch}
+use Rattle.encode.specs.Parts.{Stretch, rawStretch}
 use Rattle.encode.specs.inner.Tables.{ownIn}
 use Rattle.encode.specs.inner.Passes.{partsSymbols}
 use Rattle.encode.proofs.PassLaws.{Tallying, tallying-start, tallying-next, tallying-token, tallying-full, tallying-ended, section-drops, section-most, raw-section}

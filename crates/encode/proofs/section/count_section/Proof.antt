@@ -1,42 +1,17 @@
 -- `encode::section::count_section` meets its contract.
 use borrow.Author.Needs.{needs}
-use Rattle.encode.proofs.PassLaws.{nothing-counted, section-found}
+use Rattle.encode.proofs.PassLaws.{counted-marked}
 use Rattle.encode.proofs.section.count_section.Statement.{statement}
 use Rattle.encode.proofs.section.count_section.Tie as tie
-
-returns : tie.Need-returns
-returns c = nothing-counted _ _ _ _ _ (c .if1 .taken)
 
 virtual-mark-requires : tie.Need-virtual-mark-requires
 virtual-mark-requires c κs = search needs
 
-sub-first-bytes : tie.Need-sub-first-bytes
-sub-first-bytes c = search needs
+count-stretch-requires : tie.Need-count-stretch-requires
+count-stretch-requires c κs = search needs
 
-part-first-bytes-start : tie.Need-part-first-bytes-start
-part-first-bytes-start c = search needs
-
-part-first-bytes-end : tie.Need-part-first-bytes-end
-part-first-bytes-end c = search needs
-
-number-at-requires : tie.Need-number-at-requires
-number-at-requires c κs = search needs
-
-count-symbols-requires : tie.Need-count-symbols-requires
-count-symbols-requires c κs = search needs
-
-returns-2 : tie.Need-returns-2
-returns-2 c = section-found _ _ _ _ _ _ _ _ (c .count-symbols .ensures) (c .before .number-at .ensures) (c .before .before .before .virtual-mark .ensures) (c .before .before .before .before .if1 .left)
+returns : tie.Need-returns
+returns c = counted-marked _ _ _ _ _ _ (c .count-stretch .ensures) (c .before .virtual-mark .ensures)
 
 pub count-section-spec : {M : Type 1} → statement M
-count-section-spec =
-    tie.close
-    (tie.spec
-    returns
-    virtual-mark-requires
-    sub-first-bytes
-    part-first-bytes-start
-    part-first-bytes-end
-    number-at-requires
-    count-symbols-requires
-    returns-2)
+count-section-spec = tie.close (tie.spec virtual-mark-requires count-stretch-requires returns)

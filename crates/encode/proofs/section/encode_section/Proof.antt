@@ -1,14 +1,11 @@
 -- `encode::section::encode_section` meets its contract.
-use borrow.Author.Needs.{needs}
 use mathlib.Core.Path.{ap, _∙_}
+use borrow.Author.Needs.{needs}
 use lib.ListN.{length}
 use Rattle.merge.specs.inner.Turns.{Merged}
-use Rattle.encode.proofs.PassLaws.{nothing-written, section-put, keeps-parts}
+use Rattle.encode.proofs.PassLaws.{written-marked, keeps-parts}
 use Rattle.encode.proofs.section.encode_section.Statement.{statement}
 use Rattle.encode.proofs.section.encode_section.Tie as tie
-
-returns : tie.Need-returns
-returns c = nothing-written _ _ _ _ (c .if1 .taken)
 
 virtual-mark-requires : tie.Need-virtual-mark-requires
 virtual-mark-requires c κs = search needs
@@ -16,15 +13,13 @@ virtual-mark-requires c κs = search needs
 encode-stretch-requires : tie.Need-encode-stretch-requires
 encode-stretch-requires c κs = search needs
 
-returns-2 : tie.Need-returns-2
-returns-2 c =
+returns : tie.Need-returns
+returns c =
     let e = c .before .before in
-    section-put _ _ _ _ (e .encode-stretch .ensures) (e .before .before .virtual-mark .ensures) (e .before .before .before .if1 .left)
+    written-marked _ _ _ _ _ (e .encode-stretch .ensures) (e .before .before .virtual-mark .ensures)
 
 same-length : tie.Need-same-length
-same-length c = ap (λ (d : Merged). length (d .ids)) (returns-2 c) ∙ keeps-parts _ _ .long _
+same-length c = ap (λ (d : Merged). length (d .ids)) (returns c) ∙ keeps-parts _ _ .long _
 
 pub encode-section-spec : {M : Type 1} → statement M
-encode-section-spec =
-    tie.close
-    (tie.spec returns virtual-mark-requires encode-stretch-requires same-length returns-2)
+encode-section-spec = tie.close (tie.spec virtual-mark-requires encode-stretch-requires same-length returns)

@@ -1,0 +1,228 @@
+-- `encode::normal::encode_parts` meets its contract. The loop's invariant: the parts before the cursor are written, those from there on follow, and
+-- none of them is too long.
+use Prim.Native.Nat.{ℕ, _-_}
+use native.Mathlib.Omega.{arith}
+use mathlib.Core.Path.{_≡_, refl, ap, _∙_}
+use mathlib.Core.List.{List, map}
+use borrow.Author.Needs.{needs}
+use lib.ListN.{length, take, drop}
+use lib.Seq.{slice}
+use Rattle.model.specs.Model.{TokenList, tokenList}
+use Rattle.sections.specs.Sections.{Item, takenApart}
+use Rattle.sections.specs.SecondList.{NormalPart, normalParts}
+use Rattle.sections.proofs.StepLaws.{stepsLeft}
+use Rattle.sections.proofs.PartLaws.{partsLeft, parts-start}
+use Rattle.encode.specs.Parts.{Stretch}
+use Rattle.encode.specs.inner.Tables.{Tables}
+use Rattle.encode.specs.inner.Passes.{partWriter, partStretch}
+use Rattle.encode.proofs.WriterLaws.{Going, going-start}
+use Rattle.encode.proofs.PassLaws.{parts-on, parts-fit, token-on, token-fit, parts-ended}
+use Rattle.encode.proofs.PartLaws.{Short, short-head, short-rest, part-next, added-next, none-next, part-fewer, added-fewer, part-put}
+use Rattle.encode.proofs.normal.encode_parts.Statement.{statement}
+use Rattle.encode.proofs.normal.encode_parts.Tie as tie
+
+abbrev tables : List ℕ → List ℕ → List ℕ → List ℕ → List ℕ → List ℕ → List ℕ → List ℕ → List ℕ → List ℕ → Tables
+tables adjacency index piece-bytes piece-offsets lookup fallback left right result rank = record { adjacency = adjacency; index = index; pieceBytes = piece-bytes; pieceOffsets = piece-offsets; lookup = lookup; fallback = fallback; left = left; right = right; result = result; rank = rank }
+
+abbrev Inv-loop : tie.InvT-loop
+Inv-loop adjacency index piece-bytes piece-offsets lookup fallback left right result rank bytes offsets ids lstrip rstrip begins metaspace opening text room scratch₀ out₀ cursor₀ written₀ scratch out cursor written =
+    let t = tokenList bytes offsets ids lstrip rstrip in
+    let f = takenApart (partStretch metaspace) in
+    let w = partWriter (tables adjacency index piece-bytes piece-offsets lookup fallback left right result rank) in
+    Going (map w (f (normalParts t opening text))) (map w (f (partsLeft t text cursor))) out₀ out written × Short metaspace room (partsLeft t text cursor) × (length scratch ≡ length scratch₀)
+
+abbrev μ-loop : tie.MeasureT-loop
+μ-loop adjacency index piece-bytes piece-offsets lookup fallback left right result rank bytes offsets ids lstrip rstrip begins metaspace opening text room scratch₀ out₀ cursor₀ written₀ scratch out cursor written = stepsLeft cursor
+
+abbrev start : tie.After-parts-start Inv-loop μ-loop → tie.Start Inv-loop μ-loop
+start f = f .before .before .before .before .before .before .before .before .before .before .before .before .before .before .before .before .before .before .before .before
+
+-- What is lent: the tables, the tokens, and the parts that it comes to.
+abbrev tablesOf : tie.Start Inv-loop μ-loop → Tables
+tablesOf s = tables (s .args .adjacency .now) (s .args .index .now) (s .args .piece-bytes .now) (s .args .piece-offsets .now) (s .args .lookup .now) (s .args .fallback .now) (s .args .left .now) (s .args .right .now) (s .args .result .now) (s .args .rank .now)
+
+abbrev tokensOf : tie.Start Inv-loop μ-loop → TokenList
+tokensOf s = tokenList (s .args .bytes .now) (s .args .offsets .now) (s .args .ids .now) (s .args .lstrip .now) (s .args .rstrip .now)
+
+abbrev wholeOf : tie.Start Inv-loop μ-loop → List (Item Stretch)
+wholeOf s = takenApart (partStretch (s .args .metaspace)) (normalParts (tokensOf s) (s .args .opening) (s .args .text .now))
+
+abbrev leftAt : tie.At-loop Inv-loop μ-loop → List (Item Stretch)
+leftAt a = let s = start (a .before) in takenApart (partStretch (s .args .metaspace)) (partsLeft (tokensOf s) (s .args .text .now) (a .loop .cursor))
+
+parts-start-requires : tie.Need-parts-start-requires Inv-loop μ-loop
+parts-start-requires c κs = search needs
+
+loop-holds : tie.Need-loop-holds Inv-loop μ-loop
+loop-holds c =
+    let s = start c in
+    let all = parts-start (tokensOf s) (s .args .opening) (s .args .text .now) in (
+      rw (c .parts-start .ensures) (rw all (going-start (map (partWriter (tablesOf s)) (wholeOf s)) (s .args .out .now))),
+      rw (c .parts-start .ensures) (rw all (record { short = s .pre .1 .1 .1 .1 })),
+      refl,
+    )
+
+next-item-requires : tie.Need-next-item-requires Inv-loop μ-loop
+next-item-requires c κs = search needs
+
+enum-told : tie.Need-enum-told Inv-loop μ-loop
+enum-told c = search needs
+
+same-length : tie.Need-same-length Inv-loop μ-loop
+same-length c = c .before .before .before .loop .inv .2
+
+same-length-2 : tie.Need-same-length-2 Inv-loop μ-loop
+same-length-2 c = c .before .before .before .loop .inv .0 .long
+
+returns : tie.Need-returns Inv-loop μ-loop
+returns c =
+    let f = c .before .before in
+    let a = f .before in
+    let s = start (a .before) in
+    parts-ended (tablesOf s) (wholeOf s) (leftAt a) (a .loop .inv .0) (ap (takenApart (partStretch (s .args .metaspace))) (none-next (tokensOf s) (s .args .text .now) (s .args .begins .now) (s .pre .1 .0) (s .pre .1 .1 .0) (a .loop .cursor) (f .next-item .ensures) (c .enum-told .given .1)))
+
+enum-known-id : tie.Need-enum-known-id Inv-loop μ-loop
+enum-known-id c = search needs
+
+mul-put-id : tie.Need-mul-put-id Inv-loop μ-loop
+mul-put-id c =
+    let a = c .before .before .before .before in
+    omega (arith, start (a .before) .good .1 .1 .1 .1 .1 .1 .1 .1 .1 .1 .1 .1 .1 .1 .1 .1 .1 .1 .1 .1 .1 .0 .1, a .loop .inv .0 .within, a .loop .inv .0 .long)
+
+sub-put-id : tie.Need-sub-put-id Inv-loop μ-loop
+sub-put-id c = c .before .before .before .before .loop .inv .0 .within
+
+part-put-id-start : tie.Need-part-put-id-start Inv-loop μ-loop
+part-put-id-start c = c .before .before .before .before .loop .inv .0 .within
+
+part-put-id-end : tie.Need-part-put-id-end Inv-loop μ-loop
+part-put-id-end c = omega arith
+
+put-id-requires : tie.Need-put-id-requires Inv-loop μ-loop
+put-id-requires c κs = search needs
+
+add-written : tie.Need-add-written Inv-loop μ-loop
+add-written c =
+    let e = c .before .before in
+    let a = e .before .before .before .before .before .before in
+    let s = start (a .before) in
+    omega (arith, s .good .1 .1 .1 .1 .1 .1 .1 .1 .1 .1 .1 .1 .1 .1 .1 .1 .1 .1 .1 .1 .1 .0 .0, token-fit (tablesOf s) (wholeOf s) (leftAt a) (a .loop .inv .0) (e .before .before .before .id .given .0 .0) (e .put-id .ensures))
+
+loop-less : tie.Need-loop-less Inv-loop μ-loop
+loop-less c =
+    let n = c .before .before .before .before .before in
+    let f = n .before .before in
+    let s = start (f .before .before) in
+    added-fewer (tokensOf s) (s .args .text .now) (s .args .begins .now) (s .pre .1 .0) (s .pre .1 .1 .0) (f .before .loop .cursor) (f .next-item .ensures) (n .id .given .1)
+
+loop-again : tie.Need-loop-again Inv-loop μ-loop
+loop-again c =
+    let e = c .before .before in
+    let n = e .before .before .before in
+    let f = n .before .before in
+    let a = f .before in
+    let s = start (a .before) in
+    let next = added-next (tokensOf s) (s .args .text .now) (s .args .begins .now) (s .pre .1 .0) (s .pre .1 .1 .0) (a .loop .cursor) (f .next-item .ensures) (n .id .given .1) in (
+      token-on (tablesOf s) (wholeOf s) (leftAt a) (a .loop .inv .0) (n .id .given .0 .0) _ (ap (takenApart (partStretch (s .args .metaspace))) next) (e .put-id .ensures),
+      short-rest (a .loop .inv .1) _ _ next,
+      a .loop .inv .2,
+    )
+
+enum-known-start : tie.Need-enum-known-start Inv-loop μ-loop
+enum-known-start c = search needs
+
+part-requires : tie.Need-part-requires Inv-loop μ-loop
+part-requires c κs = search needs
+
+mul-encode-part : tie.Need-mul-encode-part Inv-loop μ-loop
+mul-encode-part c =
+    let a = c .before .before .before .before .before .before in
+    omega (arith, start (a .before) .good .1 .1 .1 .1 .1 .1 .1 .1 .1 .1 .1 .1 .1 .1 .1 .1 .1 .1 .1 .1 .1 .0 .1, a .loop .inv .0 .within, a .loop .inv .0 .long)
+
+sub-encode-part : tie.Need-sub-encode-part Inv-loop μ-loop
+sub-encode-part c = c .before .before .before .before .before .before .loop .inv .0 .within
+
+part-encode-part-start : tie.Need-part-encode-part-start Inv-loop μ-loop
+part-encode-part-start c = c .before .before .before .before .before .before .loop .inv .0 .within
+
+part-encode-part-end : tie.Need-part-encode-part-end Inv-loop μ-loop
+part-encode-part-end c = omega arith
+
+encode-part-requires : tie.Need-encode-part-requires Inv-loop μ-loop
+encode-part-requires c κs =
+    let a = c .before .before .before .before .before .before .before in
+    let s = start (a .before) in
+    (s .pre .0, omega (arith, s .pre .1 .1 .1 .0, a .loop .inv .2))
+
+-- The part that is written.
+abbrev partAt : tie.After-start Inv-loop μ-loop → NormalPart
+partAt n =
+    let s = start (n .before .before .before .before) in
+    record { bytes = slice (n .start .given .0 .0) (n .start .given .0 .1 .0) (s .args .text .now); first = n .start .given .0 .1 .1 .0 }
+
+add-written-2 : tie.Need-add-written-2 Inv-loop μ-loop
+add-written-2 c =
+    let e = c .before .before .before .before in
+    let p = e .before .before .before in
+    let n = p .before .before in
+    let f = n .before .before in
+    let a = f .before in
+    let s = start (a .before) in
+    let now = n .start .given .0 in
+    let next = part-next (tokensOf s) (s .args .text .now) (s .args .begins .now) (s .pre .1 .0) (s .pre .1 .1 .0) (a .loop .cursor) (f .next-item .ensures) (n .start .given .1) in
+    omega (arith, s .good .1 .1 .1 .1 .1 .1 .1 .1 .1 .1 .1 .1 .1 .1 .1 .1 .1 .1 .1 .1 .1 .0 .0, parts-fit (tablesOf s) (wholeOf s) (leftAt a) (a .loop .inv .0) (partStretch (s .args .metaspace) (partAt n)) (part-put (tablesOf s) (s .args .metaspace) (s .args .text .now) (now .0) (now .1 .0) (now .1 .1 .0) (s .args .room) (take (length (a .loop .out) - a .loop .written) (drop (a .loop .written) (a .loop .out))) (p .part .ensures) (short-head (a .loop .inv .1) (partAt n) _ next) (e .encode-part .ensures)))
+
+loop-less-2 : tie.Need-loop-less-2 Inv-loop μ-loop
+loop-less-2 c =
+    let n = c .before .before .before .before .before .before .before .before .before in
+    let f = n .before .before in
+    let s = start (f .before .before) in
+    part-fewer (tokensOf s) (s .args .text .now) (s .args .begins .now) (s .pre .1 .0) (s .pre .1 .1 .0) (f .before .loop .cursor) (f .next-item .ensures) (n .start .given .1)
+
+loop-again-2 : tie.Need-loop-again-2 Inv-loop μ-loop
+loop-again-2 c =
+    let e = c .before .before .before .before in
+    let p = e .before .before .before in
+    let n = p .before .before in
+    let f = n .before .before in
+    let a = f .before in
+    let s = start (a .before) in
+    let now = n .start .given .0 in
+    let next = part-next (tokensOf s) (s .args .text .now) (s .args .begins .now) (s .pre .1 .0) (s .pre .1 .1 .0) (a .loop .cursor) (f .next-item .ensures) (n .start .given .1) in (
+      parts-on (tablesOf s) (wholeOf s) (leftAt a) (a .loop .inv .0) (partStretch (s .args .metaspace) (partAt n)) _ (ap (takenApart (partStretch (s .args .metaspace))) next) (part-put (tablesOf s) (s .args .metaspace) (s .args .text .now) (now .0) (now .1 .0) (now .1 .1 .0) (s .args .room) (take (length (a .loop .out) - a .loop .written) (drop (a .loop .written) (a .loop .out))) (p .part .ensures) (short-head (a .loop .inv .1) (partAt n) _ next) (e .encode-part .ensures)),
+      short-rest (a .loop .inv .1) _ _ next,
+      c .before .before .before .scratch .given ∙ a .loop .inv .2,
+    )
+
+pub encode-parts-spec : {M : Type 1} → statement M
+encode-parts-spec =
+    tie.close
+    (tie.spec
+    Inv-loop
+    μ-loop
+    parts-start-requires
+    loop-holds
+    next-item-requires
+    enum-told
+    same-length
+    same-length-2
+    returns
+    enum-known-id
+    mul-put-id
+    sub-put-id
+    part-put-id-start
+    part-put-id-end
+    put-id-requires
+    add-written
+    loop-less
+    loop-again
+    enum-known-start
+    part-requires
+    mul-encode-part
+    sub-encode-part
+    part-encode-part-start
+    part-encode-part-end
+    encode-part-requires
+    add-written-2
+    loop-less-2
+    loop-again-2)
