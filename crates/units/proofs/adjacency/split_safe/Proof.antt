@@ -25,6 +25,10 @@ clear-requires c κs = search needs
 string-count-requires : tie.Need-string-count-requires Inv-loop μ-loop
 string-count-requires c κs = search needs
 
+-- the start of the call, from where the loop stands
+abbrev start : tie.At-loop Inv-loop μ-loop → tie.Start Inv-loop μ-loop
+start a = a .before .before .before .before .before .before
+
 loop-holds : tie.Need-loop-holds Inv-loop μ-loop
 loop-holds c =
     let st = c .before .before .before .before .before .args in
@@ -45,7 +49,7 @@ loop-less c = search needs
 loop-again : tie.Need-loop-again Inv-loop μ-loop
 loop-again c =
     let l = c .before .before .before .before .loop in
-    let st = c .before .before .before .before .before .before .before .before .before .before .args in
+    let st = start (c .before .before .before .before) .args in
     let pieces = strings (st .piece-bytes .now) (st .piece-offsets .now) in
     (l .inv .0, search needs, ap (noteAll (joinMap neighbours (drop (l .id + 1) pieces))) (c .note-pairs .ensures ∙ ap (λ (p : List ℕ). noteAll (neighbours p) (l .rows)) (c .before .before .string-at .ensures)) ∙ sym (walked-next pieces (l .rows) (l .id) (search needs)) ∙ l .inv .2)
 

@@ -8,6 +8,10 @@ use Rattle.units.specs.declared.RawPath.the-variants as raw
 use Rattle.units.proofs.raw.path_of.Statement.{statement}
 use Rattle.units.proofs.raw.path_of.Tie as tie
 
+-- the start of the call, from where the steps are two
+abbrev start : tie.Then5 → tie.Start
+start t = t .before .before .before .before .before
+
 is-present-requires : tie.Need-is-present-requires
 is-present-requires c κs = search needs
 
@@ -59,7 +63,7 @@ is-space-replace-requires-2 c κs = search needs
 
 returns-6 : tie.Need-returns-6
 returns-6 c =
-    let st = c .before .before .before .before .before .before .before .before .before .before .args in
+    let st = start (c .before .before .before .before .before) .args in
     let k = c .before .before in
     sym (path-no-replace (st .step-bytes .now) (st .step-count) (st .metaspace) (st .t2) _ (c .before .before .before .before .before .if5 .taken) (search needs) (sym (k .before .is-prepend-mark .ensures) ∙ not-false (k .before .is-prepend-mark .result) (k .if6 .left)) (sym (c .before .is-space-replace2 .ensures) ∙ not-true (c .before .is-space-replace2 .result) (c .if7 .taken)))
 
@@ -68,14 +72,14 @@ metaspace-splits-requires c κs = search needs
 
 returns-7 : tie.Need-returns-7
 returns-7 c =
-    let st = c .before .before .before .before .before .before .before .before .before .before .before .before .args in
+    let st = start (c .before .before .before .before .before .before .before) .args in
     let j = c .before .before in
     let k = j .before .before in
     sym (path-both (st .step-bytes .now) (st .step-count) (st .metaspace) (st .t2) _ (c .before .before .before .before .before .before .before .if5 .taken) (search needs) true (sym (k .before .is-prepend-mark .ensures) ∙ not-false (k .before .is-prepend-mark .result) (k .if6 .left)) (sym (j .before .is-space-replace2 .ensures) ∙ not-false (j .before .is-space-replace2 .result) (j .if7 .left)) (sym (c .before .metaspace-splits .ensures) ∙ c .if8 .taken))
 
 returns-8 : tie.Need-returns-8
 returns-8 c =
-    let st = c .before .before .before .before .before .before .before .before .before .before .before .before .args in
+    let st = start (c .before .before .before .before .before .before .before) .args in
     let j = c .before .before in
     let k = j .before .before in
     sym (path-both (st .step-bytes .now) (st .step-count) (st .metaspace) (st .t2) _ (c .before .before .before .before .before .before .before .if5 .taken) (search needs) false (sym (k .before .is-prepend-mark .ensures) ∙ not-false (k .before .is-prepend-mark .result) (k .if6 .left)) (sym (j .before .is-space-replace2 .ensures) ∙ not-false (j .before .is-space-replace2 .result) (j .if7 .left)) (sym (c .before .metaspace-splits .ensures) ∙ c .if8 .left))

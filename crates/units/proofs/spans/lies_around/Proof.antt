@@ -6,6 +6,10 @@ use Rattle.units.proofs.SpanLaws.{apart-before, around-by}
 use Rattle.units.proofs.spans.lies_around.Statement.{statement}
 use Rattle.units.proofs.spans.lies_around.Tie as tie
 
+-- the start of the call, from where the place is wide
+abbrev start : tie.After-wide → tie.Start
+start w = w .before .before .before .before
+
 wide-requires : tie.Need-wide-requires
 wide-requires c κs = search needs
 
@@ -31,7 +35,7 @@ starts-with-requires c κs = search needs
 
 returns-2 : tie.Need-returns-2
 returns-2 c =
-    let st = c .before .before .before .before .before .before .before .before .before .args in
+    let st = start (c .before .before .before .before .before) .args in
     c .starts-with .ensures
     ∙ around-by (st .piece .now) (st .before .now) (st .after .now) (st .place) _ (c .before .before .before .before .before .wide .ensures .0) _ (c .before .before .before .before .part .ensures) _ (c .before .part2 .ensures) (sym (c .before .before .before .ends-with .ensures) ∙ not-false (c .before .before .before .ends-with .result) (c .before .before .if1 .left))
 

@@ -17,6 +17,10 @@ Inv-loop piece-bytes piece-offsets noted count before after k₀ at₀ k at = (a
 abbrev μ-loop : tie.MeasureT-loop
 μ-loop piece-bytes piece-offsets noted count before after k₀ at₀ k at = count - k
 
+-- the start of the call, from where the loop stands
+abbrev start : tie.At-loop Inv-loop μ-loop → tie.Start Inv-loop μ-loop
+start a = a .before .before .before .before .before .before
+
 loop-holds : tie.Need-loop-holds Inv-loop μ-loop
 loop-holds c =
     let st = c .before .before .before .before .before .args in
@@ -55,7 +59,7 @@ lies-around-requires c κs = search needs
 returns-2 : tie.Need-returns-2 Inv-loop μ-loop
 returns-2 c =
     let l = c .before .before .before .before .before .before .before .before .loop in
-    let st = c .before .before .before .before .before .before .before .before .before .before .before .before .before .before .args in
+    let st = start (c .before .before .before .before .before .before .before .before) .args in
     let pieces = strings (st .piece-bytes .now) (st .piece-offsets .now) in
     sym (l .inv .1 ∙ named-found (around (st .before .now) (st .after .now)) pieces (st .noted .now) (st .count) (l .at) (l .k) (search needs) (search needs) (ap (around (st .before .now) (st .after .now)) (sym (crossing-read pieces (getD (st .noted .now) (l .at) 0) (getD (st .noted .now) (l .at + 1) 0) _ _ (c .before .before .before .before .wide .ensures .0) (c .before .before .before .string-at .ensures))) ∙ sym (c .before .lies-around .ensures) ∙ c .if2 .taken))
 
@@ -71,7 +75,7 @@ loop-less c = search needs
 loop-again : tie.Need-loop-again Inv-loop μ-loop
 loop-again c =
     let l = c .before .before .before .before .before .before .before .before .loop in
-    let st = c .before .before .before .before .before .before .before .before .before .before .before .before .before .before .args in
+    let st = start (c .before .before .before .before .before .before .before .before) .args in
     let pieces = strings (st .piece-bytes .now) (st .piece-offsets .now) in
     (search needs, l .inv .1 ∙ named-next (around (st .before .now) (st .after .now)) pieces (st .noted .now) (st .count) (l .at) (l .k) (search needs) (search needs) (ap (around (st .before .now) (st .after .now)) (sym (crossing-read pieces (getD (st .noted .now) (l .at) 0) (getD (st .noted .now) (l .at + 1) 0) _ _ (c .before .before .before .before .wide .ensures .0) (c .before .before .before .string-at .ensures))) ∙ sym (c .before .lies-around .ensures) ∙ c .if2 .left))
 
