@@ -37,7 +37,7 @@ use Rattle.prepare.proofs.LayoutLaws.{length-firstBytes, length-buckets}
 use Rattle.prepare.proofs.PrepareLaws.{noted-long}
 use Rattle.sections.specs.Sections.{Item, token, plain, takenApart, Section, bytesOf}
 use Rattle.encode.specs.Parts.{Stretch, virtualMark, stretch, rawStretch}
-use Rattle.encode.specs.Encode.{idsOf, startsOf, dropsOf}
+use Rattle.encode.specs.Encode.{idsOf, startsOf, dropsOf, held}
 use Rattle.encode.specs.inner.Writers.{Writer, stretchWriter}
 use Rattle.encode.specs.inner.Tables.{Tables, words, ownIn, rowsIn, cutsIn, stretchIn}
 use Rattle.encode.specs.inner.Passes.{partStarts, partDrops, partsSymbols, idWriter, partWriter, partsWriter}
@@ -217,7 +217,7 @@ module _ (m : Model) (fine : checkNumber m ≡ 0) where
 
   -- The first pass counts what the definitions count,
   pub parts-counted : (parts : List (Item Stretch)) → Each OfBytes parts → (room : ℕ)
-      → _≡_ {A = Symbols} (partsSymbols (ownIn (derivedIndex m) (m .pieceBytes) (m .pieceOffsets) (m .lookup)) (m .fallback) parts room) (record { count = min (sum (map (startsOf m) parts)) room; drops = sum (map (dropsOf m) parts) })
+      → _≡_ {A = Symbols} (partsSymbols (ownIn (derivedIndex m) (m .pieceBytes) (m .pieceOffsets) (m .lookup)) (m .fallback) parts room) (record { count = min (sum (map (startsOf m) parts)) room; drops = held (sum (map (dropsOf m) parts)) })
   unfolding partsSymbols
   parts-counted parts small room =
       rw own-derived

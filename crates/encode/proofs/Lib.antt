@@ -2,6 +2,7 @@
 pub mod WriterLaws
 pub mod StretchLaws
 pub mod PassLaws
+pub mod ItemLaws
 pub mod WalkLaws
 pub mod NormalLaws
 pub mod PartLaws

@@ -24,7 +24,7 @@ use Rattle.merge.specs.declared.Symbols.{Symbols}
 use Rattle.sections.specs.Sections.{Item, takenApart, sections}
 use Rattle.sections.specs.inner.Seek.{firstBytes}
 use Rattle.encode.specs.Parts.{Stretch, rawStretch, stretchesOf, parts}
-use Rattle.encode.specs.Encode.{idsOf, encodedIds, dropsOf, drops, startsOf, startingCount}
+use Rattle.encode.specs.Encode.{idsOf, encodedIds, dropsOf, drops, startsOf, startingCount, held}
 use Rattle.encode.specs.inner.Tables.{Tables, ownIn}
 use Rattle.encode.specs.inner.Passes.{partsSymbols, partsWriter, partsOutcome}
 use Rattle.encode.proofs.WriterLaws.{Each}
@@ -65,7 +65,7 @@ module _ (t : Tables) (parts : List (Item Stretch)) (out : List ℕ) where
 -- On an accepted model with its derived rows it is what the definitions say of these parts.
 pub outcome-meant : (m : Model) → checkNumber m ≡ 0 → (parts : List (Item Stretch)) → Each OfBytes parts → (text out : List ℕ)
     → let number = cond {A = ℕ} (ltb (length out) (sum (map (startsOf m) parts))) 12 0 in
-    partsOutcome (tablesOf m) parts out ≡ outcome number (placeOf number text) (done (length (joinMap (idsOf m) parts)) (sum (map (dropsOf m) parts)) 0) (joinMap (idsOf m) parts) out
+    partsOutcome (tablesOf m) parts out ≡ outcome number (placeOf number text) (done (length (joinMap (idsOf m) parts)) (held (sum (map (dropsOf m) parts))) 0) (joinMap (idsOf m) parts) out
 unfolding partsOutcome outcome placeOf filled
 outcome-meant m fine parts small text out =
     rw (parts-counted m fine parts small (length out + 1))
@@ -85,7 +85,7 @@ outcome-meant m fine parts small text out =
 pub raw-meant : (m : Model) → checkNumber m ≡ 0 → (prepend : RawPrepend) → rawPath m ≡ Present prepend → (continuation : Bool) (text : List ℕ) → Small text → (out : List ℕ)
     → let number = cond {A = ℕ} (ltb (length out) (startingCount m continuation text)) 12 0 in
     partsOutcome (tablesOf m) (takenApart (rawStretch prepend continuation text) (sections (m .first) text)) out
-    ≡ outcome number (placeOf number text) (done (length (encodedIds m continuation text)) (drops m continuation text) 0) (encodedIds m continuation text) out
+    ≡ outcome number (placeOf number text) (done (length (encodedIds m continuation text)) (held (drops m continuation text)) 0) (encodedIds m continuation text) out
 unfolding startingCount encodedIds drops parts stretchesOf
 raw-meant m fine prepend e continuation text small out =
     rw e (outcome-meant m fine (takenApart (rawStretch prepend continuation text) (sections (m .first) text)) (raw-bytes prepend continuation text small (sections (m .first) text)) text out)

@@ -52,15 +52,3 @@ module _ (t : TokenList) (first text : List ℕ) (cursor : Cursor) {item : Next}
 
   pub token-fewer : {id : ℕ} {next : Cursor} → item ≡ Added id next → stepsLeft next < stepsLeft cursor
   token-fewer e = omega (arith, fewer-steps t first false text cursor, ap stepsGiven (sym is), ap stepsGiven e)
-
--- A text has no more parts than this.
-pub steps-start : (offsets text : List ℕ) → stepsLeft (sectionsStart offsets text) ≤ 2 * length text + 1
-unfolding sectionsStart
-steps-start offsets text = go (eqb (length offsets - 1) 0)
-  where
-    go : (b : Bool) → stepsLeft (cond b Whole (Seek 0 0 (length text) true)) ≤ 2 * length text + 1
-    go true = omega arith
-    go false = omega arith
-
-pub section-long : (a b : ℕ) (text : List ℕ) → length (slice a b text) ≤ length text
-section-long a b text = omega (arith, length-drop a (take b text), length-take b text)

@@ -1,5 +1,6 @@
 // The two passes on the raw path, where the sections of a text are its stretches.
 use crate::finish::clear_from;
+use crate::held::add_held;
 use crate::section::count_section;
 use crate::section::encode_section;
 use crate::section::put_id;
@@ -48,7 +49,6 @@ pub fn count_raw(
     requires { ⌜ indexLength ≤ length (now index) ⌝ }
     requires { ⌜ now first ≡ firstBytes (contents (tokenList (now bytes) (now offsets) (now ids) (now lstrip) (now rstrip))) (length (now first)) ⌝ }
     requires { ⌜ badToken (contents (tokenList (now bytes) (now offsets) (now ids) (now lstrip) (now rstrip))) ≡ false ⌝ }
-    requires { ⌜ length (now text) ≤ 1048576 ⌝ }
     ensures { λ r. ⌜ r ≡ partsSymbols (ownIn (now (index .entry)) (now («piece_bytes» .entry)) (now («piece_offsets» .entry)) (now (lookup .entry))) (now (fallback .entry)) (takenApart (rawStretch prepend continuation (now (text .entry))) (sections (tokenList (now (bytes .entry)) (now (offsets .entry)) (now (ids .entry)) (now (lstrip .entry)) (now (rstrip .entry))) (now (text .entry)))) room ⌝ }
 {
     let mut cursor = sections_start(offsets, text);
@@ -100,7 +100,7 @@ pub fn count_raw(
                     room - count,
                 );
                 count += given.count;
-                drops += given.drops;
+                drops = add_held(drops, given.drops);
                 cursor = next;
             }
         }
@@ -212,7 +212,6 @@ pub fn encode_raw(
 ) -> Answer
     requires { ⌜ indexLength ≤ length (now index) ⌝ }
     requires { ⌜ badToken (contents (tokenList (now bytes) (now offsets) (now ids) (now lstrip) (now rstrip))) ≡ false ⌝ }
-    requires { ⌜ length (now text) ≤ 1048576 ⌝ }
     ensures { λ r. ⌜ _≡_ {A = Outcome} (record { answer = r; out = now (out .exit) }) (partsOutcome (record { adjacency = now (adjacency .entry); index = now (index .entry); pieceBytes = now («piece_bytes» .entry); pieceOffsets = now («piece_offsets» .entry); lookup = now (lookup .entry); fallback = now (fallback .entry); left = now (left .entry); right = now (right .entry); result = now (result .entry); rank = now (rank .entry) }) (takenApart (rawStretch prepend continuation (now (text .entry))) (sections (tokenList (now (bytes .entry)) (now (offsets .entry)) (now (ids .entry)) (now (lstrip .entry)) (now (rstrip .entry))) (now (text .entry)))) (now (out .entry))) ⌝ }
 {
     let mut first = [0u32; 256];

@@ -28,7 +28,7 @@ count-raw-requires : tie.Need-count-raw-requires
 count-raw-requires c κs =
     let b = c .before .before in
     let s = start (b .before) in
-    (s .pre .0, (first-own (tokensOf s) _ (b .first-bytes .ensures), (s .pre .1 .0, s .pre .1 .1)))
+    (s .pre .0, (first-own (tokensOf s) _ (b .first-bytes .ensures), s .pre .1))
 
 refused-requires : tie.Need-refused-requires
 refused-requires c κs = search needs
@@ -45,7 +45,7 @@ write-raw-requires : tie.Need-write-raw-requires
 write-raw-requires c κs =
     let b = c .before .before .before .before .before .before .before in
     let s = start (b .before) in
-    (s .pre .0, (first-own (tokensOf s) _ (b .first-bytes .ensures), s .pre .1 .0))
+    (s .pre .0, (first-own (tokensOf s) _ (b .first-bytes .ensures), s .pre .1))
 
 clear-from-requires : tie.Need-clear-from-requires
 clear-from-requires c κs = written-inside _ _ _ (c .before .before .before .write-raw .ensures)

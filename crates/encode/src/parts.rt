@@ -1,5 +1,6 @@
 // A part of a normalized section: metaspace, and then the stretch that it leaves.
 use crate::Counted;
+use crate::held::add_held;
 use crate::section::put_id;
 use crate::stretch::count_stretch;
 use crate::stretch::encode_stretch;
@@ -27,7 +28,7 @@ ghost use Rattle.sections.specs.SecondList.{normalParts};
 ghost use Rattle.sections.specs.inner.Seek.{firstBytes};
 ghost use Rattle.encode.specs.Parts.{stretch};
 ghost use Rattle.encode.specs.inner.Tables.{ownIn};
-ghost use Rattle.encode.specs.inner.Passes.{partsSymbols, partsWriter, counted, unlessLong, partStretch, partOutput};
+ghost use Rattle.encode.specs.inner.Passes.{partsSymbols, partsWriter, counted, unlessLong, partStretch, itemOutputs, partOutputs};
 
 fn counts(symbols: Symbols) -> Counted
     ensures { λ r. ⌜ r ≡ counted false symbols ⌝ }
@@ -39,7 +40,7 @@ fn counts(symbols: Symbols) -> Counted
 }
 
 // Its starting ids, counted up to `cells`, and its drops. What metaspace puts out may have `room` bytes.
-pub fn count_part(
+pub(crate) fn count_part(
     index: &[u32],
     piece_bytes: &[u8],
     piece_offsets: &[u32],
@@ -88,7 +89,7 @@ pub fn count_part(
 }
 
 // Its ids into the front of `out`. Answers how many there are.
-pub fn encode_part(
+pub(crate) fn encode_part(
     adjacency: &[u64],
     index: &[u32],
     piece_bytes: &[u8],
@@ -151,8 +152,96 @@ pub fn encode_part(
     }
 }
 
+// The starting ids of all parts of a normalized section and one for each token between them, counted up to `cells`, and all drops.
+pub(crate) fn count_parts(
+    index: &[u32],
+    piece_bytes: &[u8],
+    piece_offsets: &[u32],
+    lookup: &[u32],
+    fallback: &[u32],
+    bytes: &[u8],
+    offsets: &[u32],
+    ids: &[u32],
+    lstrip: &[bool],
+    rstrip: &[bool],
+    begins: &[u32],
+    metaspace: Metaspace,
+    opening: bool,
+    text: &[u8],
+    room: usize,
+    cells: usize,
+    scratch: &mut [u8],
+) -> Counted
+    requires { ⌜ indexLength ≤ length (now index) ⌝ }
+    requires { ⌜ now begins ≡ firstBytes (contents (tokenList (now bytes) (now offsets) (now ids) (now lstrip) (now rstrip))) (length (now begins)) ⌝ }
+    requires { ⌜ badToken (contents (tokenList (now bytes) (now offsets) (now ids) (now lstrip) (now rstrip))) ≡ false ⌝ }
+    requires { ⌜ room ≤ length (now scratch) ⌝ }
+    ensures { λ r. ⌜ r ≡ counted (outgrows (joinMap (itemOutputs (partOutputs metaspace)) (normalParts (tokenList (now (bytes .entry)) (now (offsets .entry)) (now (ids .entry)) (now (lstrip .entry)) (now (rstrip .entry))) opening (now (text .entry)))) room) (partsSymbols (ownIn (now (index .entry)) (now («piece_bytes» .entry)) (now («piece_offsets» .entry)) (now (lookup .entry))) (now (fallback .entry)) (takenApart (partStretch metaspace) (normalParts (tokenList (now (bytes .entry)) (now (offsets .entry)) (now (ids .entry)) (now (lstrip .entry)) (now (rstrip .entry))) opening (now (text .entry)))) cells) ⌝ }
+{
+    let mut cursor = parts_start(text, opening);
+    let mut count = 0;
+    let mut drops = 0;
+    loop {
+        match next_item(
+            bytes,
+            offsets,
+            ids,
+            lstrip,
+            rstrip,
+            begins,
+            true,
+            text,
+            cursor,
+        ) {
+            Next::Finished => {
+                return Counted::Counts { count, drops };
+            }
+            Next::Added { id: _, next } => {
+                if count < cells {
+                    count += 1;
+                    cursor = next;
+                } else {
+                    cursor = next;
+                }
+            }
+            Next::Plain {
+                start,
+                stop,
+                opening: first,
+                next,
+            } => {
+                match count_part(
+                    index,
+                    piece_bytes,
+                    piece_offsets,
+                    lookup,
+                    fallback,
+                    metaspace,
+                    first,
+                    part(text, start, stop),
+                    room,
+                    cells - count,
+                    scratch,
+                ) {
+                    Counted::TooLong => {
+                        return Counted::TooLong;
+                    }
+                    Counted::Counts {
+                        count: more,
+                        drops: lost,
+                    } => {
+                        count += more;
+                        drops = add_held(drops, lost);
+                        cursor = next;
+                    }
+                }
+            }
+        }
+    }
+}
+
 // The ids of all parts of a normalized section and of the tokens between them into the front of `out`. Answers how many there are.
-pub fn encode_parts(
+pub(crate) fn encode_parts(
     adjacency: &[u64],
     index: &[u32],
     piece_bytes: &[u8],
@@ -180,7 +269,7 @@ pub fn encode_parts(
     requires { ⌜ now begins ≡ firstBytes (contents (tokenList (now bytes) (now offsets) (now ids) (now lstrip) (now rstrip))) (length (now begins)) ⌝ }
     requires { ⌜ badToken (contents (tokenList (now bytes) (now offsets) (now ids) (now lstrip) (now rstrip))) ≡ false ⌝ }
     requires { ⌜ room ≤ length (now scratch) ⌝ }
-    requires { ⌜ outgrows (joinMap (partOutput metaspace) (normalParts (tokenList (now bytes) (now offsets) (now ids) (now lstrip) (now rstrip)) opening (now text))) room ≡ false ⌝ }
+    requires { ⌜ outgrows (joinMap (itemOutputs (partOutputs metaspace)) (normalParts (tokenList (now bytes) (now offsets) (now ids) (now lstrip) (now rstrip)) opening (now text))) room ≡ false ⌝ }
     ensures { λ n. ⌜ _≡_ {A = Merged} (record { count = n; ids = now (out .exit) }) (partsWriter (record { adjacency = now (adjacency .entry); index = now (index .entry); pieceBytes = now («piece_bytes» .entry); pieceOffsets = now («piece_offsets» .entry); lookup = now (lookup .entry); fallback = now (fallback .entry); left = now (left .entry); right = now (right .entry); result = now (result .entry); rank = now (rank .entry) }) (takenApart (partStretch metaspace) (normalParts (tokenList (now (bytes .entry)) (now (offsets .entry)) (now (ids .entry)) (now (lstrip .entry)) (now (rstrip .entry))) opening (now (text .entry)))) (now (out .entry))) ⌝ }
 {
     let mut cursor = parts_start(text, opening);
