@@ -6,6 +6,7 @@ pub mod ItemLaws
 pub mod WalkLaws
 pub mod NormalLaws
 pub mod PartLaws
+pub mod SteppedLaws
 pub mod ModelLaws
 pub mod DerivedLaws
 pub mod OutcomeLaws

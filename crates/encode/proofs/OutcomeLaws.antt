@@ -1,8 +1,8 @@
 -- Laws of what encoding leaves: by the two passes, and by an accepted model with its derived rows. Assumes nothing.
 use Prim.Native.Nat.{ℕ, _+_, _-_, _≤_, _<_, min}
 use native.Mathlib.Omega.{arith}
-use mathlib.Core.Path.{_≡_, sym, ap, _∙_}
-use mathlib.Core.Bool.{Bool, cond}
+use mathlib.Core.Path.{_≡_, sym, ap, ap₂, _∙_}
+use mathlib.Core.Bool.{Bool, false, cond}
 use mathlib.Core.Logic.{⊎-elim}
 use mathlib.Core.List.{List, _++_, map}
 use borrow.Author.Tests.{lt-ltb, le-ltb, ltb-true, ltb-false}
@@ -21,14 +21,18 @@ use Rattle.units.specs.declared.RawPath.the-variants.{Present}
 use Rattle.units.proofs.AdjacencyLaws.{Small}
 use Rattle.merge.specs.inner.Turns.{Merged}
 use Rattle.merge.specs.declared.Symbols.{Symbols}
+use Rattle.normalise.specs.Normalise.{outgrows}
 use Rattle.sections.specs.Sections.{Item, takenApart, sections}
 use Rattle.sections.specs.inner.Seek.{firstBytes}
+use Rattle.encode.specs.declared.Counted.{Counted}
+use Rattle.encode.specs.declared.Counted.the-variants.{Counts, TooLong}
 use Rattle.encode.specs.Parts.{Stretch, rawStretch, stretchesOf, parts}
 use Rattle.encode.specs.Encode.{idsOf, encodedIds, dropsOf, drops, startsOf, startingCount, held}
 use Rattle.encode.specs.inner.Tables.{Tables, ownIn}
-use Rattle.encode.specs.inner.Passes.{partsSymbols, partsWriter, partsOutcome}
+use Rattle.encode.specs.inner.Passes.{partsSymbols, partsWriter, partsOutcome, counted, itemOutputs, Normal, sectionStretches, sectionOutputs, normalOutcome}
 use Rattle.encode.proofs.WriterLaws.{Each}
 use Rattle.encode.proofs.PassLaws.{keeps-parts}
+use Rattle.encode.proofs.ItemLaws.{counts-found, long-found}
 use Rattle.encode.proofs.DerivedLaws.{tablesOf, OfBytes, raw-bytes, parts-counted, parts-written}
 
 pub first-long : (contents : List (List ℕ)) {first : List ℕ} (n : ℕ) → first ≡ firstBytes contents n → n ≡ length first
@@ -61,6 +65,38 @@ module _ (t : Tables) (parts : List (Item Stretch)) (out : List ℕ) where
     cleared-long e =
         omega
         (arith, ap length e, length-append (take k middle) (zeros (length middle - k)), length-take k middle, length-replicate {A = ℕ} (length middle - k) 0, written-inside, ap (λ (d : Merged). length (d .ids)) written, keeps-parts t parts .long out)
+
+-- A text that is normalized, by what the first pass found.
+module _ (t : Tables) (n : Normal) (first : TokenList) (text : List ℕ) (room : ℕ) (out : List ℕ) where
+  abbrev long : Bool
+  long = outgrows (joinMap (itemOutputs (sectionOutputs n text)) (sections first text)) room
+
+  abbrev parts-of : List (Item Stretch)
+  parts-of = takenApart (sectionStretches n text) (sections first text)
+
+  abbrev symbols : Symbols
+  symbols = partsSymbols (ownIn (t .index) (t .pieceBytes) (t .pieceOffsets) (t .lookup)) (t .fallback) parts-of (length out + 1)
+
+  module _ {r : Counted} (e : r ≡ counted long symbols) where
+    pub normal-long : r ≡ TooLong → {x : Answer} → x ≡ refused 11 0 → _≡_ {A = Outcome} (record { answer = x; out = out }) (normalOutcome t n first text room out)
+    unfolding normalOutcome
+    normal-long f g = rw (long-found long symbols (sym f ∙ e), g)
+
+    module _ {c d : ℕ} (f : r ≡ Counts c d) where
+      pub normal-fine : long ≡ false
+      normal-fine = counts-found long symbols (sym f ∙ e) .0
+
+      told : _≡_ {A = Symbols} (record { count = c; drops = d }) symbols
+      told = let h = counts-found long symbols (sym f ∙ e) in ap₂ {C = Symbols} (λ (n : ℕ) (m : ℕ). record { count = n; drops = m }) (h .1) (h .2)
+
+      pub normal-short : {x : Answer} → x ≡ refused 12 0 → length out < c → _≡_ {A = Outcome} (record { answer = x; out = out }) (normalOutcome t n first text room out)
+      unfolding normalOutcome
+      normal-short g h = rw normal-fine (outcome-short t parts-of out told g h)
+
+      pub normal-written : {x : Answer} {k : ℕ} {middle last : List ℕ} → _≡_ {A = Merged} (record { count = k; ids = middle }) (partsWriter t parts-of out) → last ≡ take k middle ++ zeros (length middle - k)
+          → x ≡ done k d 0 → c ≤ length out → _≡_ {A = Outcome} (record { answer = x; out = last }) (normalOutcome t n first text room out)
+      unfolding normalOutcome
+      normal-written written is g h = rw normal-fine (outcome-written t parts-of out told written is g h)
 
 -- On an accepted model with its derived rows it is what the definitions say of these parts.
 pub outcome-meant : (m : Model) → checkNumber m ≡ 0 → (parts : List (Item Stretch)) → Each OfBytes parts → (text out : List ℕ)

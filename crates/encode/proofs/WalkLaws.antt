@@ -9,7 +9,7 @@ use lib.ListN.{length, length-take, length-drop, take}
 use lib.Seq.{slice}
 use Rattle.model.specs.Model.{TokenList, contents}
 use Rattle.model.specs.Check.{badToken}
-use Rattle.sections.specs.Sections.{Item, token, takenApart, Section, sections}
+use Rattle.sections.specs.Sections.{Item, token, plain, takenApart, Section, sections}
 use Rattle.sections.specs.inner.Seek.{firstBytes}
 use Rattle.sections.specs.inner.Walk.{nextItem, sectionsStart}
 use Rattle.sections.specs.declared.Cursor.{Cursor}
@@ -34,17 +34,26 @@ module _ (f : Section → List (Item Stretch)) (t : TokenList) (text : List ℕ)
     here : sectionsLeft t text cursor ≡ sectionsGiven t text item
     here = sections-step t first (rw sound (first-sound (contents t) (length first))) fine text cursor ∙ ap (sectionsGiven t text) (sym is)
 
+    pub section-here : {start stop : ℕ} {opening : Bool} {next : Cursor} → item ≡ Plain start stop opening next → sectionsLeft t text cursor ≡ plain (record { start = start; stop = stop; opening = opening }) ∷ sectionsLeft t text next
+    section-here e = here ∙ ap (sectionsGiven t text) e
+
+    pub token-here : {id : ℕ} {next : Cursor} → item ≡ Added id next → sectionsLeft t text cursor ≡ token id ∷ sectionsLeft t text next
+    token-here e = here ∙ ap (sectionsGiven t text) e
+
+    pub none-here : item ≡ Finished → sectionsLeft t text cursor ≡ []
+    none-here e = here ∙ ap (sectionsGiven t text) e
+
     pub plain-next : {start stop : ℕ} {opening : Bool} {next : Cursor} → item ≡ Plain start stop opening next → partsLeft cursor ≡ f (record { start = start; stop = stop; opening = opening }) ++ partsLeft next
     unfolding partsLeft
-    plain-next e = ap (takenApart f) (here ∙ ap (sectionsGiven t text) e)
+    plain-next e = ap (takenApart f) (section-here e)
 
     pub token-next : {id : ℕ} {next : Cursor} → item ≡ Added id next → partsLeft cursor ≡ token id ∷ partsLeft next
     unfolding partsLeft
-    token-next e = ap (takenApart f) (here ∙ ap (sectionsGiven t text) e)
+    token-next e = ap (takenApart f) (token-here e)
 
     pub finished : item ≡ Finished → partsLeft cursor ≡ []
     unfolding partsLeft
-    finished e = ap (takenApart f) (here ∙ ap (sectionsGiven t text) e)
+    finished e = ap (takenApart f) (none-here e)
 
 module _ (t : TokenList) (first text : List ℕ) (cursor : Cursor) {item : Next} (is : item ≡ nextItem t first false text cursor) where
   pub plain-fewer : {start stop : ℕ} {opening : Bool} {next : Cursor} → item ≡ Plain start stop opening next → stepsLeft next < stepsLeft cursor

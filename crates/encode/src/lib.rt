@@ -2,6 +2,7 @@
 mod finish;
 mod held;
 mod marks;
+mod normal;
 mod parts;
 mod raw;
 mod section;
