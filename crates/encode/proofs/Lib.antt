@@ -9,3 +9,4 @@ pub mod PartLaws
 pub mod ModelLaws
 pub mod DerivedLaws
 pub mod OutcomeLaws
+pub mod EncodeLaws
