@@ -18,7 +18,6 @@ use Rattle.model.proofs.AnswerLaws.{lowest-later, lowest-first, tests-positive,
 use Rattle.normalise.specs.Normalise.{outgrows}
 use Rattle.units.specs.Kinds.{rawPath, hasRawPath}
 use Rattle.units.specs.declared.RawPrepend.{RawPrepend}
-use Rattle.units.specs.declared.RawPath.{RawPath}
 use Rattle.units.specs.declared.RawPath.the-variants.{Absent, Present}
 use Rattle.units.proofs.AdjacencyLaws.{Small}
 use Rattle.sections.specs.Sections.{takenApart, sections}

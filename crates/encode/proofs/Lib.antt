@@ -9,4 +9,5 @@ pub mod PartLaws
 pub mod ModelLaws
 pub mod DerivedLaws
 pub mod OutcomeLaws
+pub mod BytesLaws
 pub mod EncodeLaws
