@@ -1,31 +1,36 @@
 -- The outcome of encode, by the first test that applies. Assumes nothing.
-use mathlib.Core.Path.{_≡_, refl, sym, ap, _∙_}
+use mathlib.Core.Path.{_≡_, refl, sym, ap, fun-ext, _∙_}
 use mathlib.Core.Bool.{Bool, true, false, not, cond, _&&_, _||_}
-use mathlib.Core.List.{List, [], _∷_}
+use mathlib.Core.List.{List, [], _∷_, _++_}
 use Prim.Native.Nat.{ℕ, _≤_, _<_, min}
 use native.Mathlib.Nat.{suc-ne-zero}
 use native.Mathlib.Omega.{arith}
 use borrow.Author.Tests.{eq-eqb, ne-eqb, lt-ltb, le-ltb}
 use lib.Dec.{eqb, ltb}
 use lib.ListN.{length}
+use Rattle.utf8.specs.Lists.{joinMap}
 use Rattle.utf8.specs.Chars.{valid, longestValidPrefix}
 use Rattle.utf8.proofs.Valid.{valid-by-prefix}
-use Rattle.model.specs.Model.{Model}
+use Rattle.model.specs.Model.{Model, stepsOf}
 use Rattle.model.specs.Answers.{lowest, zeros, done, placeOf, scratchAfter, Outcome, ScratchOutcome, outcome, withScratch, refused}
 use Rattle.model.specs.Check.{modelTests, checkNumber, checkOutcome, textTooLong}
 use Rattle.model.specs.declared.Answer.{Answer}
 use Rattle.model.proofs.AnswerLaws.{lowest-later, lowest-first, tests-positive, tests-of-check, text-too-long, model-bound, check-refuses, number-checked}
+use Rattle.normalise.specs.Steps.{outputsOf, stepOutputs, stepped}
 use Rattle.normalise.specs.Normalise.{outgrows}
 use Rattle.units.specs.Kinds.{rawPath, hasRawPath}
 use Rattle.units.specs.declared.RawPrepend.{RawPrepend}
 use Rattle.units.specs.declared.RawPath.the-variants.{Absent, Present}
 use Rattle.units.proofs.AdjacencyLaws.{Small}
-use Rattle.sections.specs.Sections.{takenApart, sections}
-use Rattle.encode.specs.Parts.{rawStretch}
-use Rattle.encode.specs.Encode.{encodedIds, drops, startingCount, encodeOutputs, held, encodeNumber, encodeOutcome}
-use Rattle.encode.specs.inner.Passes.{partsOutcome}
+use Rattle.sections.specs.Sections.{Item, token, plain, takenApart, Section, bytesOf, sections}
+use Rattle.sections.specs.SecondList.{NormalPart}
+use Rattle.encode.specs.Parts.{rawStretch, normalStretch, normalPartsOf, stretchesOf, parts}
+use Rattle.encode.specs.Encode as definitions
+use Rattle.encode.specs.Encode.{metaspaceOutputOf, encodedIds, drops, startingCount, encodeOutputs, held, encodeNumber, encodeOutcome}
+use Rattle.encode.specs.inner.Passes.{partsOutcome, itemOutputs, partStretch, partOutputs, Normal, partsIn, stretchesIn, outputsIn, sectionStretches, sectionOutputs, normalOutcome}
 use Rattle.encode.proofs.DerivedLaws.{tablesOf}
-use Rattle.encode.proofs.OutcomeLaws.{raw-meant}
+use Rattle.encode.proofs.OutcomeLaws.{outcome-meant, raw-meant}
+use Rattle.encode.proofs.BytesLaws.{normal-bytes}
 
 and-false : (b : Bool) → (b && false) ≡ false
 and-false true = refl
@@ -35,11 +40,51 @@ and-false false = refl
 abbrev clears : ℕ → Bool
 clears n = eqb n 0 || eqb n 11 || eqb n 12
 
--- They are zeroed where nothing is wrong but the room.
+-- So do those that only room decides.
 clears-short : (long short : Bool) → clears (cond long 11 (cond short 12 0)) ≡ true
 clears-short true short = refl
 clears-short false true = refl
 clears-short false false = refl
+
+-- ---- off the raw path
+
+-- What normalizing takes of a model.
+abbrev pub normalOf : Model → Normal
+normalOf m = record { second = m .second; stepBytes = m .stepBytes; steps = stepsOf m; metaspace = m .metaspace }
+
+module _ (m : Model) (text : List ℕ) where
+  part-outputs : (item : Item NormalPart) → itemOutputs (partOutputs (m .metaspace)) item ≡ metaspaceOutputOf m item
+  unfolding metaspaceOutputOf
+  part-outputs (token id) = refl
+  part-outputs (plain part) = refl
+
+  section-outputs : (item : Item Section) → itemOutputs (sectionOutputs (normalOf m) text) item ≡ definitions.sectionOutputs m text item
+  unfolding definitions.sectionOutputs outputsIn partsIn normalPartsOf stepped stepOutputs
+  section-outputs (token id) = refl
+  section-outputs (plain section) =
+      ap (λ (outputs : Item NormalPart → List (List ℕ)). outputsOf (m .stepBytes) (stepsOf m) (bytesOf text section) ++ joinMap outputs (normalPartsOf m text section)) (fun-ext part-outputs)
+
+  module _ (e : rawPath m ≡ Absent) where
+    -- The outputs and the parts are those of the definitions.
+    normal-outputs : joinMap (itemOutputs (sectionOutputs (normalOf m) text)) (sections (m .first) text) ≡ encodeOutputs m (rawPath m) text
+    unfolding encodeOutputs
+    normal-outputs = rw e (ap (λ (outputs : Item Section → List (List ℕ)). joinMap outputs (sections (m .first) text)) (fun-ext section-outputs))
+
+    normal-parts : (continuation : Bool) → parts m continuation text ≡ takenApart (sectionStretches (normalOf m) text) (sections (m .first) text)
+    unfolding parts stretchesOf normalStretch normalPartsOf stepped stepOutputs stretchesIn partsIn partStretch
+    normal-parts continuation = rw e
+
+    -- So what encoding the parts leaves is the outcome of the text.
+    normal-meant : checkNumber m ≡ 0 → (continuation : Bool) → Small text → Small (m .stepBytes) → (out : List ℕ)
+        → let number = cond {A = ℕ} (ltb (length out) (startingCount m continuation text)) 12 0 in
+        partsOutcome (tablesOf m) (takenApart (sectionStretches (normalOf m) text) (sections (m .first) text)) out
+        ≡ outcome number (placeOf number text) (done (length (encodedIds m continuation text)) (held (drops m continuation text)) 0) (encodedIds m continuation text) out
+    unfolding startingCount encodedIds drops
+    normal-meant fine continuation small steps out =
+        rw (normal-parts continuation)
+        (outcome-meant m fine (takenApart (sectionStretches (normalOf m) text) (sections (m .first) text)) (normal-bytes (normalOf m) text steps small (sections (m .first) text)) text out)
+
+-- ---- the first test that applies
 
 module _ (m : Model) (text : List ℕ) (continuation : Bool) (out a b : List ℕ) where
   abbrev room : ℕ
@@ -65,6 +110,14 @@ module _ (m : Model) (text : List ℕ) (continuation : Bool) (out a b : List ℕ
   abbrev left : ℕ → Outcome
   left n = outcome n (placeOf n text) (done (length (encodedIds m continuation text)) (held (drops m continuation text)) 0) (encodedIds m continuation text) out
 
+  -- The same with scratch zeroed.
+  abbrev cleared : Outcome → ScratchOutcome
+  cleared o = record { answer = o .answer; out = o .out; scratchA = zeros (length a); scratchB = zeros (length b) }
+
+  left-long : left 11 ≡ record { answer = refused 11 0; out = out }
+  unfolding outcome placeOf
+  left-long = refl
+
   later : lowest (modelTests m (length text)) ≡ 0 → encodeNumber m continuation text (length out) room ≡ lowest rest
   unfolding encodeNumber
   later e = lowest-later (modelTests m (length text)) rest (tests-positive m (length text)) e
@@ -87,9 +140,7 @@ module _ (m : Model) (text : List ℕ) (continuation : Bool) (out a b : List ℕ
       lost-path e = rw (later fine, v, e)
 
       -- With a path, where one is needed, only room can be missing.
-      room-decides : noPath ≡ false → (long short : Bool) → tooLong ≡ long → tooShort ≡ short
-          → _≡_ {A = ScratchOutcome} (record { answer = left (cond long 11 (cond short 12 0)) .answer; out = left (cond long 11 (cond short 12 0)) .out; scratchA = zeros (length a); scratchB = zeros (length b) })
-          (encodeOutcome m text continuation out a b)
+      room-decides : noPath ≡ false → (long short : Bool) → tooLong ≡ long → tooShort ≡ short → cleared (left (cond long 11 (cond short 12 0))) ≡ encodeOutcome m text continuation out a b
       unfolding encodeOutcome withScratch scratchAfter
       room-decides e long short l s = rw (later fine, v, e, l, s, clears-short long short)
 
@@ -100,6 +151,21 @@ module _ (m : Model) (text : List ℕ) (continuation : Bool) (out a b : List ℕ
       on-raw-path ok prepend e small is fa fb =
           rw (is, fa, fb, raw-meant m ok prepend e continuation text small out)
           (room-decides (rw e (and-false continuation)) false tooShort (rw e) refl)
+
+      normal-left : checkNumber m ≡ 0 → rawPath m ≡ Absent → Small text → Small (m .stepBytes) → normalOutcome (tablesOf m) (normalOf m) (m .first) text room out ≡ left (cond tooLong 11 (cond tooShort 12 0))
+      unfolding normalOutcome
+      normal-left ok e small steps = rw (normal-outputs m text e, normal-meant m text e ok continuation small steps out) (go tooLong)
+        where
+          go : (long : Bool) → cond long (record { answer = refused 11 0; out = out }) (left (cond tooShort 12 0)) ≡ left (cond long 11 (cond tooShort 12 0))
+          go true = sym left-long
+          go false = refl
+
+      off-raw-path : checkNumber m ≡ 0 → rawPath m ≡ Absent → continuation ≡ false → Small text → Small (m .stepBytes) → {o : Outcome} {za zb : List ℕ}
+          → o ≡ normalOutcome (tablesOf m) (normalOf m) (m .first) text room out → za ≡ zeros (length a) → zb ≡ zeros (length b)
+          → _≡_ {A = ScratchOutcome} (record { answer = o .answer; out = o .out; scratchA = za; scratchB = zb }) (encodeOutcome m text continuation out a b)
+      off-raw-path ok e c small steps is fa fb =
+          rw (is, fa, fb, normal-left ok e small steps)
+          (room-decides (rw c) tooLong tooShort refl refl)
 
 -- What a call is lent.
 pub record Lent : Type 0 where
@@ -161,3 +227,10 @@ module _ (g : Lent) where
           → _≡_ {A = ScratchOutcome} (record { answer = o .answer; out = o .out; scratchA = za; scratchB = zb }) wanted
       raw-text prepend p small e fa fb =
           on-raw-path (g .model) (g .text) (g .continuation) (g .out) (g .scratchA) (g .scratchB) (of-check h ∙ n) is-valid n prepend p small e fa fb
+
+      pub normal-text : rawPath (g .model) ≡ Absent → g .continuation ≡ false → Small (g .text) → Small (g .model .stepBytes) → {o : Outcome} {za zb : List ℕ}
+          → o ≡ normalOutcome (tablesOf (g .model)) (normalOf (g .model)) (g .model .first) (g .text) (min (length (g .scratchA)) (length (g .scratchB))) (g .out)
+          → za ≡ zeros (length (g .scratchA)) → zb ≡ zeros (length (g .scratchB))
+          → _≡_ {A = ScratchOutcome} (record { answer = o .answer; out = o .out; scratchA = za; scratchB = zb }) wanted
+      normal-text p c small steps e fa fb =
+          off-raw-path (g .model) (g .text) (g .continuation) (g .out) (g .scratchA) (g .scratchB) (of-check h ∙ n) is-valid n p c small steps e fa fb
