@@ -10,3 +10,5 @@ pub mod SteppedLaws
 pub mod ModelLaws
 pub mod DerivedLaws
 pub mod OutcomeLaws
+pub mod BytesLaws
+pub mod EncodeLaws
