@@ -33,7 +33,7 @@ extern "C" {
 
 /* How many words varitmol_prepare derives: of the byte-adjacency rows, and of the index. */
 #define VARITMOL_ADJACENCY_LEN 1024
-#define VARITMOL_INDEX_LEN 4423
+#define VARITMOL_INDEX_LEN 4936
 
 /* The kinds of a step. */
 #define VARITMOL_PREPEND 0

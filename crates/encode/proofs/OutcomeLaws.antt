@@ -22,7 +22,7 @@ use Rattle.units.proofs.AdjacencyLaws.{Small}
 use Rattle.merge.specs.inner.Turns.{Merged}
 use Rattle.merge.specs.declared.Symbols.{Symbols}
 use Rattle.sections.specs.Sections.{Item, takenApart, sections}
-use Rattle.sections.specs.inner.Seek.{firstBytes}
+use Rattle.sections.specs.Beginnings.{beginnings}
 use Rattle.encode.specs.Parts.{Stretch, rawStretch, stretchesOf, parts}
 use Rattle.encode.specs.Encode.{idsOf, encodedIds, dropsOf, drops, startsOf, startingCount, held}
 use Rattle.encode.specs.inner.Tables.{Tables, ownIn}
@@ -31,14 +31,14 @@ use Rattle.encode.proofs.WriterLaws.{Each}
 use Rattle.encode.proofs.PassLaws.{keeps-parts}
 use Rattle.encode.proofs.DerivedLaws.{tablesOf, OfBytes, raw-bytes, parts-counted, parts-written}
 
-pub first-long : (contents : List (List ℕ)) {first : List ℕ} (n : ℕ) → first ≡ firstBytes contents n → n ≡ length first
-unfolding firstBytes
+pub first-long : (contents : List (List ℕ)) {first : List ℕ} (n : ℕ) → first ≡ beginnings contents n → n ≡ length first
+unfolding beginnings
 first-long contents n e = sym (ap length e ∙ length-row _ n)
 
 -- A row of first bytes knows its own length.
-pub first-own : (t : TokenList) {first : List ℕ} (n : ℕ) → first ≡ firstBytes (strings (t .bytes) (t .offsets)) n → first ≡ firstBytes (contents t) (length first)
+pub first-own : (t : TokenList) {first : List ℕ} (n : ℕ) → first ≡ beginnings (strings (t .bytes) (t .offsets)) n → first ≡ beginnings (contents t) (length first)
 unfolding contents
-first-own t n e = e ∙ ap (firstBytes (strings (t .bytes) (t .offsets))) (first-long _ n e)
+first-own t n e = e ∙ ap (beginnings (strings (t .bytes) (t .offsets))) (first-long _ n e)
 
 module _ (t : Tables) (parts : List (Item Stretch)) (out : List ℕ) where
   module _ {s : Symbols} (counted : s ≡ partsSymbols (ownIn (t .index) (t .pieceBytes) (t .pieceOffsets) (t .lookup)) (t .fallback) parts (length out + 1)) where

@@ -23,7 +23,7 @@ ghost use Rattle.model.specs.Model.{contents, tokenList};
 ghost use Rattle.merge.specs.inner.Turns.{Merged};
 ghost use Rattle.prepare.specs.Layout.{indexLength};
 ghost use Rattle.sections.specs.Sections.{takenApart, sections};
-ghost use Rattle.sections.specs.inner.Seek.{firstBytes};
+ghost use Rattle.sections.specs.Beginnings.{beginnings};
 ghost use Rattle.encode.specs.Parts.{rawStretch};
 ghost use Rattle.encode.specs.inner.Tables.{ownIn};
 ghost use Rattle.encode.specs.inner.Passes.{partsSymbols, partsWriter, partsOutcome};
@@ -47,7 +47,7 @@ pub fn count_raw(
     room: usize,
 ) -> Symbols
     requires { ⌜ indexLength ≤ length (now index) ⌝ }
-    requires { ⌜ now first ≡ firstBytes (contents (tokenList (now bytes) (now offsets) (now ids) (now lstrip) (now rstrip))) (length (now first)) ⌝ }
+    requires { ⌜ now first ≡ beginnings (contents (tokenList (now bytes) (now offsets) (now ids) (now lstrip) (now rstrip))) (length (now first)) ⌝ }
     requires { ⌜ badToken (contents (tokenList (now bytes) (now offsets) (now ids) (now lstrip) (now rstrip))) ≡ false ⌝ }
     ensures { λ r. ⌜ r ≡ partsSymbols (ownIn (now (index .entry)) (now («piece_bytes» .entry)) (now («piece_offsets» .entry)) (now (lookup .entry))) (now (fallback .entry)) (takenApart (rawStretch prepend continuation (now (text .entry))) (sections (tokenList (now (bytes .entry)) (now (offsets .entry)) (now (ids .entry)) (now (lstrip .entry)) (now (rstrip .entry))) (now (text .entry)))) room ⌝ }
 {
@@ -131,7 +131,7 @@ pub fn write_raw(
     out: &mut [u32],
 ) -> usize
     requires { ⌜ indexLength ≤ length (now index) ⌝ }
-    requires { ⌜ now first ≡ firstBytes (contents (tokenList (now bytes) (now offsets) (now ids) (now lstrip) (now rstrip))) (length (now first)) ⌝ }
+    requires { ⌜ now first ≡ beginnings (contents (tokenList (now bytes) (now offsets) (now ids) (now lstrip) (now rstrip))) (length (now first)) ⌝ }
     requires { ⌜ badToken (contents (tokenList (now bytes) (now offsets) (now ids) (now lstrip) (now rstrip))) ≡ false ⌝ }
     ensures { λ n. ⌜ _≡_ {A = Merged} (record { count = n; ids = now (out .exit) }) (partsWriter (record { adjacency = now (adjacency .entry); index = now (index .entry); pieceBytes = now («piece_bytes» .entry); pieceOffsets = now («piece_offsets» .entry); lookup = now (lookup .entry); fallback = now (fallback .entry); left = now (left .entry); right = now (right .entry); result = now (result .entry); rank = now (rank .entry) }) (takenApart (rawStretch prepend continuation (now (text .entry))) (sections (tokenList (now (bytes .entry)) (now (offsets .entry)) (now (ids .entry)) (now (lstrip .entry)) (now (rstrip .entry))) (now (text .entry)))) (now (out .entry))) ⌝ }
 {
