@@ -13,7 +13,7 @@ use Rattle.utf8.proofs.Tests.{either}
 use Rattle.utf8.proofs.Fronts.{length-row}
 use Rattle.model.specs.Answers.{zeros, done, refused, filled, placeOf, Outcome, outcome}
 use Rattle.model.specs.Check.{checkNumber}
-use Rattle.model.specs.Model.{Model, TokenList, contents, strings}
+use Rattle.model.specs.Model.{Model, TokenList}
 use Rattle.model.specs.declared.Answer.{Answer}
 use Rattle.units.specs.Kinds.{rawPath}
 use Rattle.units.specs.declared.RawPrepend.{RawPrepend}
@@ -23,7 +23,7 @@ use Rattle.merge.specs.inner.Turns.{Merged}
 use Rattle.merge.specs.declared.Symbols.{Symbols}
 use Rattle.normalise.specs.Normalise.{outgrows}
 use Rattle.sections.specs.Sections.{Item, takenApart, sections}
-use Rattle.sections.specs.inner.Seek.{firstBytes}
+use Rattle.sections.specs.Beginnings.{beginnings}
 use Rattle.encode.specs.declared.Counted.{Counted}
 use Rattle.encode.specs.declared.Counted.the-variants.{Counts, TooLong}
 use Rattle.encode.specs.Parts.{Stretch, rawStretch, stretchesOf, parts}
@@ -35,14 +35,10 @@ use Rattle.encode.proofs.PassLaws.{keeps-parts}
 use Rattle.encode.proofs.ItemLaws.{counts-found, long-found}
 use Rattle.encode.proofs.DerivedLaws.{tablesOf, OfBytes, raw-bytes, parts-counted, parts-written}
 
-pub first-long : (contents : List (List ℕ)) {first : List ℕ} (n : ℕ) → first ≡ firstBytes contents n → n ≡ length first
-unfolding firstBytes
-first-long contents n e = sym (ap length e ∙ length-row _ n)
-
 -- A row of first bytes knows its own length.
-pub first-own : (t : TokenList) {first : List ℕ} (n : ℕ) → first ≡ firstBytes (strings (t .bytes) (t .offsets)) n → first ≡ firstBytes (contents t) (length first)
-unfolding contents
-first-own t n e = e ∙ ap (firstBytes (strings (t .bytes) (t .offsets))) (first-long _ n e)
+pub begins-own : (contents : List (List ℕ)) {row : List ℕ} (n : ℕ) → row ≡ beginnings contents n → row ≡ beginnings contents (length row)
+unfolding beginnings
+begins-own contents n e = e ∙ ap (beginnings contents) (sym (ap length e ∙ length-row _ n))
 
 module _ (t : Tables) (parts : List (Item Stretch)) (out : List ℕ) where
   module _ {s : Symbols} (counted : s ≡ partsSymbols (ownIn (t .index) (t .pieceBytes) (t .pieceOffsets) (t .lookup)) (t .fallback) parts (length out + 1)) where

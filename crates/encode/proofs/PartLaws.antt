@@ -15,7 +15,7 @@ use Rattle.normalise.specs.Spaces.{metaspaceOutput, metaspaced}
 use Rattle.merge.specs.inner.Turns.{Merged}
 use Rattle.sections.specs.Sections.{Item, token, plain}
 use Rattle.sections.specs.SecondList.{NormalPart}
-use Rattle.sections.specs.inner.Seek.{firstBytes}
+use Rattle.sections.specs.Beginnings.{beginnings}
 use Rattle.sections.specs.inner.Walk.{nextItem}
 use Rattle.sections.specs.declared.Cursor.{Cursor}
 use Rattle.sections.specs.declared.Next.{Next}
@@ -28,7 +28,7 @@ use Rattle.encode.specs.Parts.{stretch}
 use Rattle.encode.specs.inner.Tables.{Tables}
 use Rattle.encode.specs.inner.Passes.{partsSymbols, partsWriter, counted, unlessLong, partStretch}
 
-module _ (t : TokenList) (text begins : List ℕ) (sound : begins ≡ firstBytes (contents t) (length begins)) (fine : badToken (contents t) ≡ false) (cursor : Cursor) {item : Next} (is : item ≡ nextItem t begins true text cursor) where
+module _ (t : TokenList) (text begins : List ℕ) (sound : begins ≡ beginnings (contents t) (length begins)) (fine : badToken (contents t) ≡ false) (cursor : Cursor) {item : Next} (is : item ≡ nextItem t begins true text cursor) where
   here : partsLeft t text cursor ≡ partsGiven t text item
   here = parts-step t begins (rw sound (first-sound (contents t) (length begins))) fine text cursor ∙ ap (partsGiven t text) (sym is)
 

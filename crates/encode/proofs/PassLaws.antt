@@ -31,7 +31,7 @@ use Rattle.merge.specs.inner.Laid.{laid, ownFound, markedChars, unitSymbols}
 use Rattle.merge.specs.inner.Turns.{rowIn, Merged}
 use Rattle.merge.specs.declared.Symbols.{Symbols}
 use Rattle.merge.proofs.Laying.{length-laid}
-use Rattle.prepare.specs.Layout.{indexLength, kindAt, crossingCountAt, crossingsAt, markIdAt, shiftAt, firstBytesAt, bucketsAt}
+use Rattle.prepare.specs.Layout.{kindAt, crossingCountAt, crossingsAt, markIdAt, shiftAt, firstBytesAt, bucketsAt, firstTokensAt}
 use Rattle.prepare.specs.Numbers.{kindFrom}
 use Rattle.sections.specs.Sections.{Item, token, plain, bytesOf}
 use Rattle.encode.specs.Parts.{Stretch, prependsMark, virtualMark, stretch, rawStretch}
@@ -133,7 +133,7 @@ stretch-told index pieceBytes pieceOffsets lookup fallback bytes virtual raw roo
 -- The writer by the index.
 pub stretch-found : (t : Tables) (virtual raw : Bool) (bytes out : List ℕ) {kind : WordSplit} {count id shift : ℕ} {done : Merged}
     → done
-    ≡ stretchWriter (rowIn (t .left) (t .right) (t .result) (t .rank) (words bucketsAt indexLength (t .index)) shift) (ownFound (t .pieceBytes) (t .pieceOffsets) (t .lookup) (words firstBytesAt bucketsAt (t .index)) id) (t .fallback) (cutBy kind (namedCrossings (strings (t .pieceBytes) (t .pieceOffsets)) (words crossingsAt markIdAt (t .index)) count) (pairNoted (t .adjacency)) raw bytes) virtual raw bytes out
+    ≡ stretchWriter (rowIn (t .left) (t .right) (t .result) (t .rank) (words bucketsAt firstTokensAt (t .index)) shift) (ownFound (t .pieceBytes) (t .pieceOffsets) (t .lookup) (words firstBytesAt bucketsAt (t .index)) id) (t .fallback) (cutBy kind (namedCrossings (strings (t .pieceBytes) (t .pieceOffsets)) (words crossingsAt markIdAt (t .index)) count) (pairNoted (t .adjacency)) raw bytes) virtual raw bytes out
     → kind ≡ kindFrom (getD (t .index) kindAt 0) → count ≡ getD (t .index) crossingCountAt 0 → id ≡ getD (t .index) markIdAt 0 → shift ≡ getD (t .index) shiftAt 0
     → done ≡ stretchIn t virtual raw bytes out
 unfolding stretchIn ownIn rowsIn cutsIn

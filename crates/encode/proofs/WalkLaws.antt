@@ -10,7 +10,7 @@ use lib.Seq.{slice}
 use Rattle.model.specs.Model.{TokenList, contents}
 use Rattle.model.specs.Check.{badToken}
 use Rattle.sections.specs.Sections.{Item, token, plain, takenApart, Section, sections}
-use Rattle.sections.specs.inner.Seek.{firstBytes}
+use Rattle.sections.specs.Beginnings.{beginnings}
 use Rattle.sections.specs.inner.Walk.{nextItem, sectionsStart}
 use Rattle.sections.specs.declared.Cursor.{Cursor}
 use Rattle.sections.specs.declared.Cursor.the-variants.{Whole, Seek}
@@ -30,7 +30,7 @@ module _ (f : Section → List (Item Stretch)) (t : TokenList) (text : List ℕ)
   unfolding partsLeft
   parts-start = ap (takenApart f) (sections-start t text)
 
-  module _ (first : List ℕ) (sound : first ≡ firstBytes (contents t) (length first)) (fine : badToken (contents t) ≡ false) (cursor : Cursor) {item : Next} (is : item ≡ nextItem t first false text cursor) where
+  module _ (first : List ℕ) (sound : first ≡ beginnings (contents t) (length first)) (fine : badToken (contents t) ≡ false) (cursor : Cursor) {item : Next} (is : item ≡ nextItem t first false text cursor) where
     here : sectionsLeft t text cursor ≡ sectionsGiven t text item
     here = sections-step t first (rw sound (first-sound (contents t) (length first))) fine text cursor ∙ ap (sectionsGiven t text) (sym is)
 

@@ -29,7 +29,7 @@ ghost use Rattle.merge.specs.inner.Turns.{Merged};
 ghost use Rattle.normalise.specs.Normalise.{outgrows};
 ghost use Rattle.prepare.specs.Layout.{indexLength};
 ghost use Rattle.sections.specs.Sections.{takenApart, sections};
-ghost use Rattle.sections.specs.inner.Seek.{firstBytes};
+ghost use Rattle.sections.specs.Beginnings.{beginnings};
 ghost use Rattle.encode.specs.inner.Tables.{ownIn};
 ghost use Rattle.encode.specs.inner.Passes.{partsSymbols, partsWriter, counted, itemOutputs, Normal, stretchesIn, outputsIn, sectionStretches, sectionOutputs, normalOutcome};
 
@@ -57,7 +57,7 @@ pub(crate) fn count_normal_section(
     b: &mut [u8],
 ) -> Counted
     requires { ⌜ indexLength ≤ length (now index) ⌝ }
-    requires { ⌜ now «second_begins» ≡ firstBytes (contents (tokenList (now «second_bytes») (now «second_offsets») (now «second_ids») (now «second_lstrip») (now «second_rstrip»))) (length (now «second_begins»)) ⌝ }
+    requires { ⌜ now «second_begins» ≡ beginnings (contents (tokenList (now «second_bytes») (now «second_offsets») (now «second_ids») (now «second_lstrip») (now «second_rstrip»))) (length (now «second_begins»)) ⌝ }
     requires { ⌜ badToken (contents (tokenList (now «second_bytes») (now «second_offsets») (now «second_ids») (now «second_lstrip») (now «second_rstrip»))) ≡ false ⌝ }
     ensures { λ r. ⌜ r ≡ counted (outgrows (outputsIn (record { second = tokenList (now («second_bytes» .entry)) (now («second_offsets» .entry)) (now («second_ids» .entry)) (now («second_lstrip» .entry)) (now («second_rstrip» .entry)); stepBytes = now («step_bytes» .entry); steps = take «step_count» steps; metaspace = metaspace }) opening (now (section .entry))) (min (length (now (a .entry))) (length (now (b .entry))))) (partsSymbols (ownIn (now (index .entry)) (now («piece_bytes» .entry)) (now («piece_offsets» .entry)) (now (lookup .entry))) (now (fallback .entry)) (stretchesIn (record { second = tokenList (now («second_bytes» .entry)) (now («second_offsets» .entry)) (now («second_ids» .entry)) (now («second_lstrip» .entry)) (now («second_rstrip» .entry)); stepBytes = now («step_bytes» .entry); steps = take «step_count» steps; metaspace = metaspace }) opening (now (section .entry))) cells) ⌝ }
 {
@@ -153,7 +153,7 @@ pub(crate) fn encode_normal_section(
     out: &mut [u32],
 ) -> usize
     requires { ⌜ indexLength ≤ length (now index) ⌝ }
-    requires { ⌜ now «second_begins» ≡ firstBytes (contents (tokenList (now «second_bytes») (now «second_offsets») (now «second_ids») (now «second_lstrip») (now «second_rstrip»))) (length (now «second_begins»)) ⌝ }
+    requires { ⌜ now «second_begins» ≡ beginnings (contents (tokenList (now «second_bytes») (now «second_offsets») (now «second_ids») (now «second_lstrip») (now «second_rstrip»))) (length (now «second_begins»)) ⌝ }
     requires { ⌜ badToken (contents (tokenList (now «second_bytes») (now «second_offsets») (now «second_ids») (now «second_lstrip») (now «second_rstrip»))) ≡ false ⌝ }
     requires { ⌜ outgrows (outputsIn (record { second = tokenList (now «second_bytes») (now «second_offsets») (now «second_ids») (now «second_lstrip») (now «second_rstrip»); stepBytes = now «step_bytes»; steps = take «step_count» steps; metaspace = metaspace }) opening (now section)) (min (length (now a)) (length (now b))) ≡ false ⌝ }
     ensures { λ n. ⌜ _≡_ {A = Merged} (record { count = n; ids = now (out .exit) }) (partsWriter (record { adjacency = now (adjacency .entry); index = now (index .entry); pieceBytes = now («piece_bytes» .entry); pieceOffsets = now («piece_offsets» .entry); lookup = now (lookup .entry); fallback = now (fallback .entry); left = now (left .entry); right = now (right .entry); result = now (result .entry); rank = now (rank .entry) }) (stretchesIn (record { second = tokenList (now («second_bytes» .entry)) (now («second_offsets» .entry)) (now («second_ids» .entry)) (now («second_lstrip» .entry)) (now («second_rstrip» .entry)); stepBytes = now («step_bytes» .entry); steps = take «step_count» steps; metaspace = metaspace }) opening (now (section .entry))) (now (out .entry))) ⌝ }
@@ -265,9 +265,9 @@ pub(crate) fn count_normal(
     b: &mut [u8],
 ) -> Counted
     requires { ⌜ indexLength ≤ length (now index) ⌝ }
-    requires { ⌜ now «first_begins» ≡ firstBytes (contents (tokenList (now «first_bytes») (now «first_offsets») (now «first_ids») (now «first_lstrip») (now «first_rstrip»))) (length (now «first_begins»)) ⌝ }
+    requires { ⌜ now «first_begins» ≡ beginnings (contents (tokenList (now «first_bytes») (now «first_offsets») (now «first_ids») (now «first_lstrip») (now «first_rstrip»))) (length (now «first_begins»)) ⌝ }
     requires { ⌜ badToken (contents (tokenList (now «first_bytes») (now «first_offsets») (now «first_ids») (now «first_lstrip») (now «first_rstrip»))) ≡ false ⌝ }
-    requires { ⌜ now «second_begins» ≡ firstBytes (contents (tokenList (now «second_bytes») (now «second_offsets») (now «second_ids») (now «second_lstrip») (now «second_rstrip»))) (length (now «second_begins»)) ⌝ }
+    requires { ⌜ now «second_begins» ≡ beginnings (contents (tokenList (now «second_bytes») (now «second_offsets») (now «second_ids») (now «second_lstrip») (now «second_rstrip»))) (length (now «second_begins»)) ⌝ }
     requires { ⌜ badToken (contents (tokenList (now «second_bytes») (now «second_offsets») (now «second_ids») (now «second_lstrip») (now «second_rstrip»))) ≡ false ⌝ }
     ensures { λ r. ⌜ r ≡ counted (outgrows (joinMap (itemOutputs (sectionOutputs (record { second = tokenList (now («second_bytes» .entry)) (now («second_offsets» .entry)) (now («second_ids» .entry)) (now («second_lstrip» .entry)) (now («second_rstrip» .entry)); stepBytes = now («step_bytes» .entry); steps = take «step_count» steps; metaspace = metaspace }) (now (text .entry)))) (sections (tokenList (now («first_bytes» .entry)) (now («first_offsets» .entry)) (now («first_ids» .entry)) (now («first_lstrip» .entry)) (now («first_rstrip» .entry))) (now (text .entry)))) (min (length (now (a .entry))) (length (now (b .entry))))) (partsSymbols (ownIn (now (index .entry)) (now («piece_bytes» .entry)) (now («piece_offsets» .entry)) (now (lookup .entry))) (now (fallback .entry)) (takenApart (sectionStretches (record { second = tokenList (now («second_bytes» .entry)) (now («second_offsets» .entry)) (now («second_ids» .entry)) (now («second_lstrip» .entry)) (now («second_rstrip» .entry)); stepBytes = now («step_bytes» .entry); steps = take «step_count» steps; metaspace = metaspace }) (now (text .entry))) (sections (tokenList (now («first_bytes» .entry)) (now («first_offsets» .entry)) (now («first_ids» .entry)) (now («first_lstrip» .entry)) (now («first_rstrip» .entry))) (now (text .entry)))) cells) ⌝ }
 {
@@ -376,9 +376,9 @@ pub(crate) fn write_normal(
     out: &mut [u32],
 ) -> usize
     requires { ⌜ indexLength ≤ length (now index) ⌝ }
-    requires { ⌜ now «first_begins» ≡ firstBytes (contents (tokenList (now «first_bytes») (now «first_offsets») (now «first_ids») (now «first_lstrip») (now «first_rstrip»))) (length (now «first_begins»)) ⌝ }
+    requires { ⌜ now «first_begins» ≡ beginnings (contents (tokenList (now «first_bytes») (now «first_offsets») (now «first_ids») (now «first_lstrip») (now «first_rstrip»))) (length (now «first_begins»)) ⌝ }
     requires { ⌜ badToken (contents (tokenList (now «first_bytes») (now «first_offsets») (now «first_ids») (now «first_lstrip») (now «first_rstrip»))) ≡ false ⌝ }
-    requires { ⌜ now «second_begins» ≡ firstBytes (contents (tokenList (now «second_bytes») (now «second_offsets») (now «second_ids») (now «second_lstrip») (now «second_rstrip»))) (length (now «second_begins»)) ⌝ }
+    requires { ⌜ now «second_begins» ≡ beginnings (contents (tokenList (now «second_bytes») (now «second_offsets») (now «second_ids») (now «second_lstrip») (now «second_rstrip»))) (length (now «second_begins»)) ⌝ }
     requires { ⌜ badToken (contents (tokenList (now «second_bytes») (now «second_offsets») (now «second_ids») (now «second_lstrip») (now «second_rstrip»))) ≡ false ⌝ }
     requires { ⌜ outgrows (joinMap (itemOutputs (sectionOutputs (record { second = tokenList (now «second_bytes») (now «second_offsets») (now «second_ids») (now «second_lstrip») (now «second_rstrip»); stepBytes = now «step_bytes»; steps = take «step_count» steps; metaspace = metaspace }) (now text))) (sections (tokenList (now «first_bytes») (now «first_offsets») (now «first_ids») (now «first_lstrip») (now «first_rstrip»)) (now text))) (min (length (now a)) (length (now b))) ≡ false ⌝ }
     ensures { λ n. ⌜ _≡_ {A = Merged} (record { count = n; ids = now (out .exit) }) (partsWriter (record { adjacency = now (adjacency .entry); index = now (index .entry); pieceBytes = now («piece_bytes» .entry); pieceOffsets = now («piece_offsets» .entry); lookup = now (lookup .entry); fallback = now (fallback .entry); left = now (left .entry); right = now (right .entry); result = now (result .entry); rank = now (rank .entry) }) (takenApart (sectionStretches (record { second = tokenList (now («second_bytes» .entry)) (now («second_offsets» .entry)) (now («second_ids» .entry)) (now («second_lstrip» .entry)) (now («second_rstrip» .entry)); stepBytes = now («step_bytes» .entry); steps = take «step_count» steps; metaspace = metaspace }) (now (text .entry))) (sections (tokenList (now («first_bytes» .entry)) (now («first_offsets» .entry)) (now («first_ids» .entry)) (now («first_lstrip» .entry)) (now («first_rstrip» .entry))) (now (text .entry)))) (now (out .entry))) ⌝ }
@@ -479,9 +479,9 @@ pub(crate) fn encode_normal(
     out: &mut [u32],
 ) -> Answer
     requires { ⌜ indexLength ≤ length (now index) ⌝ }
-    requires { ⌜ now «first_begins» ≡ firstBytes (contents (tokenList (now «first_bytes») (now «first_offsets») (now «first_ids») (now «first_lstrip») (now «first_rstrip»))) (length (now «first_begins»)) ⌝ }
+    requires { ⌜ now «first_begins» ≡ beginnings (contents (tokenList (now «first_bytes») (now «first_offsets») (now «first_ids») (now «first_lstrip») (now «first_rstrip»))) (length (now «first_begins»)) ⌝ }
     requires { ⌜ badToken (contents (tokenList (now «first_bytes») (now «first_offsets») (now «first_ids») (now «first_lstrip») (now «first_rstrip»))) ≡ false ⌝ }
-    requires { ⌜ now «second_begins» ≡ firstBytes (contents (tokenList (now «second_bytes») (now «second_offsets») (now «second_ids») (now «second_lstrip») (now «second_rstrip»))) (length (now «second_begins»)) ⌝ }
+    requires { ⌜ now «second_begins» ≡ beginnings (contents (tokenList (now «second_bytes») (now «second_offsets») (now «second_ids») (now «second_lstrip») (now «second_rstrip»))) (length (now «second_begins»)) ⌝ }
     requires { ⌜ badToken (contents (tokenList (now «second_bytes») (now «second_offsets») (now «second_ids») (now «second_lstrip») (now «second_rstrip»))) ≡ false ⌝ }
     ensures { λ r. ⌜ _≡_ {A = Outcome} (record { answer = r; out = now (out .exit) }) (normalOutcome (record { adjacency = now (adjacency .entry); index = now (index .entry); pieceBytes = now («piece_bytes» .entry); pieceOffsets = now («piece_offsets» .entry); lookup = now (lookup .entry); fallback = now (fallback .entry); left = now (left .entry); right = now (right .entry); result = now (result .entry); rank = now (rank .entry) }) (record { second = tokenList (now («second_bytes» .entry)) (now («second_offsets» .entry)) (now («second_ids» .entry)) (now («second_lstrip» .entry)) (now («second_rstrip» .entry)); stepBytes = now («step_bytes» .entry); steps = take «step_count» steps; metaspace = metaspace }) (tokenList (now («first_bytes» .entry)) (now («first_offsets» .entry)) (now («first_ids» .entry)) (now («first_lstrip» .entry)) (now («first_rstrip» .entry))) (now (text .entry)) (min (length (now (a .entry))) (length (now (b .entry)))) (now (out .entry))) ⌝ }
 {

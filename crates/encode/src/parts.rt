@@ -25,7 +25,7 @@ ghost use Rattle.normalise.specs.Spaces.{metaspaceOutput, metaspaced};
 ghost use Rattle.prepare.specs.Layout.{indexLength};
 ghost use Rattle.sections.specs.Sections.{takenApart};
 ghost use Rattle.sections.specs.SecondList.{normalParts};
-ghost use Rattle.sections.specs.inner.Seek.{firstBytes};
+ghost use Rattle.sections.specs.Beginnings.{beginnings};
 ghost use Rattle.encode.specs.Parts.{stretch};
 ghost use Rattle.encode.specs.inner.Tables.{ownIn};
 ghost use Rattle.encode.specs.inner.Passes.{partsSymbols, partsWriter, counted, unlessLong, partStretch, itemOutputs, partOutputs};
@@ -173,7 +173,7 @@ pub(crate) fn count_parts(
     scratch: &mut [u8],
 ) -> Counted
     requires { ⌜ indexLength ≤ length (now index) ⌝ }
-    requires { ⌜ now begins ≡ firstBytes (contents (tokenList (now bytes) (now offsets) (now ids) (now lstrip) (now rstrip))) (length (now begins)) ⌝ }
+    requires { ⌜ now begins ≡ beginnings (contents (tokenList (now bytes) (now offsets) (now ids) (now lstrip) (now rstrip))) (length (now begins)) ⌝ }
     requires { ⌜ badToken (contents (tokenList (now bytes) (now offsets) (now ids) (now lstrip) (now rstrip))) ≡ false ⌝ }
     requires { ⌜ room ≤ length (now scratch) ⌝ }
     ensures { λ r. ⌜ r ≡ counted (outgrows (joinMap (itemOutputs (partOutputs metaspace)) (normalParts (tokenList (now (bytes .entry)) (now (offsets .entry)) (now (ids .entry)) (now (lstrip .entry)) (now (rstrip .entry))) opening (now (text .entry)))) room) (partsSymbols (ownIn (now (index .entry)) (now («piece_bytes» .entry)) (now («piece_offsets» .entry)) (now (lookup .entry))) (now (fallback .entry)) (takenApart (partStretch metaspace) (normalParts (tokenList (now (bytes .entry)) (now (offsets .entry)) (now (ids .entry)) (now (lstrip .entry)) (now (rstrip .entry))) opening (now (text .entry)))) cells) ⌝ }
@@ -266,7 +266,7 @@ pub(crate) fn encode_parts(
     out: &mut [u32],
 ) -> usize
     requires { ⌜ indexLength ≤ length (now index) ⌝ }
-    requires { ⌜ now begins ≡ firstBytes (contents (tokenList (now bytes) (now offsets) (now ids) (now lstrip) (now rstrip))) (length (now begins)) ⌝ }
+    requires { ⌜ now begins ≡ beginnings (contents (tokenList (now bytes) (now offsets) (now ids) (now lstrip) (now rstrip))) (length (now begins)) ⌝ }
     requires { ⌜ badToken (contents (tokenList (now bytes) (now offsets) (now ids) (now lstrip) (now rstrip))) ≡ false ⌝ }
     requires { ⌜ room ≤ length (now scratch) ⌝ }
     requires { ⌜ outgrows (joinMap (itemOutputs (partOutputs metaspace)) (normalParts (tokenList (now bytes) (now offsets) (now ids) (now lstrip) (now rstrip)) opening (now text))) room ≡ false ⌝ }

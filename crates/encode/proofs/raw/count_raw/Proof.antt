@@ -17,13 +17,13 @@ use Rattle.encode.proofs.raw.count_raw.Statement.{statement}
 use Rattle.encode.proofs.raw.count_raw.Tie as tie
 
 abbrev Inv-loop : tie.InvT-loop
-Inv-loop index piece-bytes piece-offsets lookup fallback bytes offsets ids lstrip rstrip first prepend continuation text room cursor₀ count₀ drops₀ cursor count drops =
+Inv-loop index piece-bytes piece-offsets lookup fallback bytes offsets ids lstrip rstrip begins prepend continuation text room cursor₀ count₀ drops₀ cursor count drops =
     let t = tokenList bytes offsets ids lstrip rstrip in
     let f = rawStretch prepend continuation text in
     Tallying (ownIn index piece-bytes piece-offsets lookup) fallback (takenApart f (sections t text)) (partsLeft f t text cursor) room count drops
 
 abbrev μ-loop : tie.MeasureT-loop
-μ-loop index piece-bytes piece-offsets lookup fallback bytes offsets ids lstrip rstrip first prepend continuation text room cursor₀ count₀ drops₀ cursor count drops = stepsLeft cursor
+μ-loop index piece-bytes piece-offsets lookup fallback bytes offsets ids lstrip rstrip begins prepend continuation text room cursor₀ count₀ drops₀ cursor count drops = stepsLeft cursor
 
 abbrev start : tie.After-sections-start Inv-loop μ-loop → tie.Start Inv-loop μ-loop
 start f = f .before .before .before .before .before .before .before .before .before .before .before .before .before
@@ -57,7 +57,7 @@ returns c =
     let f = c .before .before in
     let a = f .before in
     let s = start (a .before) in
-    tallying-ended (a .loop .inv) (finished (partsOf s) (tokensOf s) (s .args .text .now) (s .args .first .now) (s .pre .1 .0) (s .pre .1 .1) (a .loop .cursor) (f .next-item .ensures) (c .enum-told .given .1))
+    tallying-ended (a .loop .inv) (finished (partsOf s) (tokensOf s) (s .args .text .now) (s .args .begins .now) (s .pre .1 .0) (s .pre .1 .1) (a .loop .cursor) (f .next-item .ensures) (c .enum-told .given .1))
 
 enum-known-next : tie.Need-enum-known-next Inv-loop μ-loop
 enum-known-next c = search needs
@@ -72,7 +72,7 @@ loop-less c =
     let n = c .before .before in
     let f = n .before .before in
     let s = start (f .before .before) in
-    token-fewer (tokensOf s) (s .args .first .now) (s .args .text .now) (f .before .loop .cursor) (f .next-item .ensures) (n .next .given .1)
+    token-fewer (tokensOf s) (s .args .begins .now) (s .args .text .now) (f .before .loop .cursor) (f .next-item .ensures) (n .next .given .1)
 
 loop-again : tie.Need-loop-again Inv-loop μ-loop
 loop-again c =
@@ -80,14 +80,14 @@ loop-again c =
     let f = n .before .before in
     let a = f .before in
     let s = start (a .before) in
-    tallying-token (a .loop .inv) _ _ (token-next (partsOf s) (tokensOf s) (s .args .text .now) (s .args .first .now) (s .pre .1 .0) (s .pre .1 .1) (a .loop .cursor) (f .next-item .ensures) (n .next .given .1)) (c .if1 .taken)
+    tallying-token (a .loop .inv) _ _ (token-next (partsOf s) (tokensOf s) (s .args .text .now) (s .args .begins .now) (s .pre .1 .0) (s .pre .1 .1) (a .loop .cursor) (f .next-item .ensures) (n .next .given .1)) (c .if1 .taken)
 
 loop-less-2 : tie.Need-loop-less-2 Inv-loop μ-loop
 loop-less-2 c =
     let n = c .before .before in
     let f = n .before .before in
     let s = start (f .before .before) in
-    token-fewer (tokensOf s) (s .args .first .now) (s .args .text .now) (f .before .loop .cursor) (f .next-item .ensures) (n .next .given .1)
+    token-fewer (tokensOf s) (s .args .begins .now) (s .args .text .now) (f .before .loop .cursor) (f .next-item .ensures) (n .next .given .1)
 
 loop-again-2 : tie.Need-loop-again-2 Inv-loop μ-loop
 loop-again-2 c =
@@ -95,7 +95,7 @@ loop-again-2 c =
     let f = n .before .before in
     let a = f .before in
     let s = start (a .before) in
-    tallying-full (a .loop .inv) _ _ (token-next (partsOf s) (tokensOf s) (s .args .text .now) (s .args .first .now) (s .pre .1 .0) (s .pre .1 .1) (a .loop .cursor) (f .next-item .ensures) (n .next .given .1)) (c .if1 .left)
+    tallying-full (a .loop .inv) _ _ (token-next (partsOf s) (tokensOf s) (s .args .text .now) (s .args .begins .now) (s .pre .1 .0) (s .pre .1 .1) (a .loop .cursor) (f .next-item .ensures) (n .next .given .1)) (c .if1 .left)
 
 enum-known-start : tie.Need-enum-known-start Inv-loop μ-loop
 enum-known-start c = search needs
@@ -123,7 +123,7 @@ loop-less-3 c =
     let n = c .before .before .before .before .before in
     let f = n .before .before in
     let s = start (f .before .before) in
-    plain-fewer (tokensOf s) (s .args .first .now) (s .args .text .now) (f .before .loop .cursor) (f .next-item .ensures) (n .start .given .1)
+    plain-fewer (tokensOf s) (s .args .begins .now) (s .args .text .now) (f .before .loop .cursor) (f .next-item .ensures) (n .start .given .1)
 
 loop-again-3 : tie.Need-loop-again-3 Inv-loop μ-loop
 loop-again-3 c =
@@ -133,7 +133,7 @@ loop-again-3 c =
     let a = f .before in
     let s = start (a .before) in
     let now = n .start .given .0 in
-    tallying-next (a .loop .inv) (partsOf s (record { start = now .0; stop = now .1 .0; opening = now .1 .1 .0 })) _ (plain-next (partsOf s) (tokensOf s) (s .args .text .now) (s .args .first .now) (s .pre .1 .0) (s .pre .1 .1) (a .loop .cursor) (f .next-item .ensures) (n .start .given .1))
+    tallying-next (a .loop .inv) (partsOf s (record { start = now .0; stop = now .1 .0; opening = now .1 .1 .0 })) _ (plain-next (partsOf s) (tokensOf s) (s .args .text .now) (s .args .begins .now) (s .pre .1 .0) (s .pre .1 .1) (a .loop .cursor) (f .next-item .ensures) (n .start .given .1))
     (g .count-section .ensures ∙ ap (λ (l : List (Item Stretch)). partsSymbols (ownOf s) (s .args .fallback .now) l (s .args .room - a .loop .count)) (raw-section (s .args .prepend) (s .args .continuation) (s .args .text .now) (now .0) (now .1 .0) (now .1 .1 .0) (g .before .part .ensures)))
     (c .add-held .ensures)
 
