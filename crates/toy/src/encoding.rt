@@ -440,25 +440,56 @@ fn with_four(text: &[u8]) {
     );
 }
 
-// P1 to P7 of rule 14.3.
-fn table(continuation: bool) {
-    plain(b"T", STRIP, 0, b"ab a", continuation, RAW);
-    plain(b"T", STRIP, 0, b" a", continuation, RAW);
-    plain(b"T", STRIP, 0, b"\xC3\xA9", continuation, RAW);
-    plain(b"T", STRIP, 0, b"c", continuation, RAW);
-    plain(b"T", STRIP, 0, b"a.b", continuation, RAW);
-    u(b"U", 1, b"b a", continuation, RAW);
-    u(b"U", 1, b"b b", continuation, RAW);
+// T itself.
+fn bare(text: &[u8], continuation: bool, out: usize) {
+    plain(
+        b"T",
+        STRIP,
+        0,
+        text,
+        continuation,
+        Rooms { out, a: 1, b: 2 },
+    );
 }
 
-// Characters that drop or fall back to bytes, the empty text, and a result that is a cell short and exact.
-fn bare() {
-    plain(b"T", STRIP, 0, b"acb", false, RAW);
-    plain(b"T", STRIP, 0, b"\xC3\xA9\xC3\xA8", false, RAW);
-    plain(b"T", STRIP, 0, b"", false, RAW);
-    plain(b"T", STRIP, 0, b"ab a", false, Rooms { out: 4, a: 1, b: 2 });
-    plain(b"T", STRIP, 0, b"ab a", false, Rooms { out: 5, a: 1, b: 2 });
-    plain(b"T", STRIP, 0, b"ab a", true, Rooms { out: 4, a: 1, b: 2 });
+// T with one step, which takes it off the raw path.
+fn stripped(text: &[u8], continuation: bool, out: usize, a: usize, b: usize) {
+    plain(
+        b"T with Strip",
+        STRIP,
+        1,
+        text,
+        continuation,
+        Rooms { out, a, b },
+    );
+}
+
+// Two sections, whose longest outputs have four bytes and five, and their token: six cells, the first section's two of them.
+fn two_sections(out: usize, room: usize) {
+    with_n(
+        b"T with <n> and Strip",
+        STRIP,
+        1,
+        PrependScheme::Always,
+        b"a<n>ab",
+        false,
+        Rooms {
+            out,
+            a: room,
+            b: room,
+        },
+    );
+}
+
+// P1 to P7 of rule 14.3.
+fn table(continuation: bool) {
+    bare(b"ab a", continuation, 6);
+    bare(b" a", continuation, 6);
+    bare(b"\xC3\xA9", continuation, 6);
+    bare(b"c", continuation, 6);
+    bare(b"a.b", continuation, 6);
+    u(b"U", 1, b"b a", continuation, RAW);
+    u(b"U", 1, b"b b", continuation, RAW);
 }
 
 // Sections around tokens, empty ones among them.
@@ -482,80 +513,27 @@ fn strips() {
     with_four(b"<  >");
 }
 
-// Off the raw path: scratch and result a cell short and exact, and what the step makes empty.
-fn steps() {
-    let name = b"T with Strip";
-    plain(name, STRIP, 1, b"ab a", false, Rooms { out: 5, a: 8, b: 9 });
-    plain(name, STRIP, 1, b"ab a", false, Rooms { out: 5, a: 9, b: 8 });
-    plain(name, STRIP, 1, b"ab a", false, Rooms { out: 4, a: 9, b: 8 });
-    plain(name, STRIP, 1, b"ab a", false, Rooms { out: 4, a: 9, b: 9 });
-    plain(name, STRIP, 1, b"ab a", false, Rooms { out: 5, a: 9, b: 9 });
-    plain(name, STRIP, 1, b"ab a", true, Rooms { out: 5, a: 9, b: 9 });
-    plain(
-        name,
-        STRIP,
-        1,
-        b" ab a ",
-        false,
-        Rooms { out: 5, a: 9, b: 9 },
-    );
-    plain(name, STRIP, 1, b"  ", false, NONE);
-    plain(name, STRIP, 1, b"", false, NONE);
-}
-
-// The outputs of the section behind a token, in front of it a section that needs two cells; and what steps make of nothing.
-fn sections() {
-    let name = b"T with <n> and Strip";
+// What a step makes of nothing, and makes nothing of.
+fn emptied() {
+    stripped(b" ab a ", false, 5, 9, 9);
+    stripped(b"  ", false, 5, 0, 0);
+    stripped(b"", false, 5, 0, 0);
     let always = PrependScheme::Always;
     with_n(
-        name,
+        b"T with <n> and Strip",
         STRIP,
         1,
         always,
-        b"a<n>ab",
+        b" <n> ",
         false,
-        Rooms { out: 1, a: 4, b: 4 },
+        NONE,
     );
-    with_n(
-        name,
-        STRIP,
-        1,
-        always,
-        b"a<n>ab",
-        false,
-        Rooms { out: 1, a: 5, b: 5 },
-    );
-    with_n(
-        name,
-        STRIP,
-        1,
-        always,
-        b"a<n>ab",
-        false,
-        Rooms { out: 5, a: 5, b: 5 },
-    );
-    with_n(
-        name,
-        STRIP,
-        1,
-        always,
-        b"a<n>ab",
-        false,
-        Rooms { out: 6, a: 5, b: 5 },
-    );
-    with_n(name, STRIP, 1, always, b" <n> ", false, NONE);
     let insert = Step::Replace {
         pattern: Span { place: 0, len: 0 },
         content: Span { place: 0, len: 1 },
     };
-    plain(
-        b"T with a for nothing",
-        insert,
-        1,
-        b"",
-        false,
-        Rooms { out: 6, a: 4, b: 4 },
-    );
+    let four = Rooms { out: 6, a: 4, b: 4 };
+    plain(b"T with a for nothing", insert, 1, b"", false, four);
     with_n(
         b"T with <n> and a for nothing",
         insert,
@@ -563,27 +541,45 @@ fn sections() {
         always,
         b"",
         false,
-        Rooms { out: 6, a: 4, b: 4 },
+        four,
     );
 }
 
 // With 33 crossings the kind is None: one unit, in which what stands around a dropped character merges, and no raw path.
 fn crossings(name: &[u8], count: usize) {
-    u(name, count, b"b a", false, Rooms { out: 6, a: 9, b: 9 });
-    u(name, count, b"bc a", false, Rooms { out: 6, a: 9, b: 9 });
+    let nine = Rooms { out: 6, a: 9, b: 9 };
+    u(name, count, b"b a", false, nine);
+    u(name, count, b"bc a", false, nine);
     u(name, count, b"bc a", false, Rooms { out: 6, a: 9, b: 8 });
-    u(name, count, b"bc a", true, Rooms { out: 6, a: 9, b: 9 });
+    u(name, count, b"bc a", true, nine);
 }
 
 pub(crate) fn run() {
     table(false);
     table(true);
-    bare();
+    // Characters that drop or fall back to bytes; no text; a result that is a cell short and exact.
+    bare(b"acb", false, 6);
+    bare(b"\xC3\xA9\xC3\xA8", false, 6);
+    bare(b"", false, 6);
+    bare(b"ab a", false, 4);
+    bare(b"ab a", false, 5);
+    bare(b"ab a", true, 4);
     tokens(b"T with <n>", PrependScheme::Always);
     tokens(b"T with <n>, First", PrependScheme::First);
     strips();
-    steps();
-    sections();
+    // Scratch a byte short and exact, result a cell short and exact, both short; and a continuation.
+    stripped(b"ab a", false, 5, 8, 9);
+    stripped(b"ab a", false, 5, 9, 8);
+    stripped(b"ab a", false, 4, 9, 8);
+    stripped(b"ab a", false, 4, 9, 9);
+    stripped(b"ab a", false, 5, 9, 9);
+    stripped(b"ab a", true, 5, 9, 9);
+    // The first section's cells are short, and the last section's scratch with them or not.
+    two_sections(1, 4);
+    two_sections(1, 5);
+    two_sections(5, 5);
+    two_sections(6, 5);
+    emptied();
     crossings(b"U with 32 crossings", 32);
     crossings(b"U with 33 crossings", 33);
 }

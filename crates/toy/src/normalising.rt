@@ -28,6 +28,19 @@ pub(crate) fn tell_bytes(bytes: &[u8]) {
     }
 }
 
+fn tell(name: &[u8], number: u32, out: &[u8], a: &[u8], b: &[u8]) {
+    io::write_all(1, name);
+    io::write_all(1, b": ");
+    io::print_decimal(1, number as u64);
+    io::write_all(1, b", result");
+    tell_bytes(out);
+    io::write_all(1, b", scratch");
+    tell_bytes(a);
+    io::write_all(1, b" and");
+    tell_bytes(b);
+    io::write_all(1, b"\n");
+}
+
 fn normalise_and_tell(
     name: &[u8],
     steps: [Step; 16],
@@ -78,16 +91,7 @@ fn normalise_and_tell(
         a,
         b,
     );
-    io::write_all(1, name);
-    io::write_all(1, b": ");
-    io::print_decimal(1, answer.number as u64);
-    io::write_all(1, b", result");
-    tell_bytes(out);
-    io::write_all(1, b", scratch");
-    tell_bytes(a);
-    io::write_all(1, b" and");
-    tell_bytes(b);
-    io::write_all(1, b"\n");
+    tell(name, answer.number, out, a, b);
 }
 
 // Lends a result buffer of `out_room` bytes and scratch of `a_room` and `b_room`; writes no line where one is above `ROOM`.
