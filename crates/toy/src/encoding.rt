@@ -36,12 +36,13 @@ struct Rooms {
     b: usize,
 }
 
-// On the raw path scratch is cleared and not used.
+// For the raw path, where scratch is cleared and otherwise not used.
 const RAW: Rooms = Rooms { out: 6, a: 1, b: 2 };
 
+// For steps that put out nothing.
 const NONE: Rooms = Rooms { out: 6, a: 0, b: 0 };
 
-// Stands where no step is counted.
+// The step of the models that count one.
 const STRIP: Step = Step::Strip {
     left: true,
     right: true,
@@ -390,8 +391,8 @@ fn with_n(
     );
 }
 
-// T with the tokens `<` (60, rstrip), space and `b` (61), `b` (62) and `>` (63, lstrip), first in its first list and then in its
-// second.
+// T with the tokens `<` (60, rstrip), space and `b` (61), `b` (62) and `>` (63, lstrip): a line with these as its first list, and one
+// with them as its second.
 fn with_four(text: &[u8]) {
     let offsets = [0u32, 1, 3, 4, 5];
     let ids = [60u32, 61, 62, 63];
