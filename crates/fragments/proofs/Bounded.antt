@@ -1,0 +1,96 @@
+-- Tests and numbers over the places from one on. Assumes nothing.
+use Prim.Native.Nat.{ℕ, zero, suc, _+_, _-_, _≤_, _<_, max}
+use native.Mathlib.Nat.{eq-or-lt-of-le}
+use native.Mathlib.Omega.{arith}
+use mathlib.Core.Path.{_≡_, refl, sym, ap, _∙_}
+use mathlib.Core.Bool.{Bool, true, false, _||_}
+use mathlib.Core.Logic.{_⊎_, inl, inr, ⊎-elim}
+use borrow.Author.Tests.{ltb-true, ltb-false}
+use lib.Dec.{ltb}
+use Rattle.utf8.specs.Lists.{any, countFrom}
+use Rattle.utf8.proofs.Tests.{either, clash, or-also}
+use Rattle.fragments.specs.inner.Most.{most}
+
+-- Two tests are equal if each holds where the other does.
+pub both-ways : (a b : Bool) → (a ≡ true → b ≡ true) → (b ≡ true → a ≡ true) → a ≡ b
+both-ways true b to from = sym (to refl)
+both-ways false b to from = ⊎-elim (λ e. from e ∙ sym e) (λ e. sym e) (either b)
+
+pub never : (a : Bool) → (a ≡ true → ⊥) → a ≡ false
+never a f = ⊎-elim (λ e. absurd (f e)) (λ e. e) (either a)
+
+pub lt-or-le : (m n : ℕ) → (m < n) ⊎ (n ≤ m)
+lt-or-le m n = ⊎-elim (λ e. inl (ltb-true m n e)) (λ e. inr (ltb-false m n e)) (either (ltb m n))
+
+or-first : {a : Bool} (b : Bool) → a ≡ true → (a || b) ≡ true
+or-first b e = rw e
+
+module _ (test : ℕ → Bool) where
+  pub record Holding (a k : ℕ) : Type 0 where
+    pub place : ℕ
+    pub low : a ≤ place
+    pub high : place < a + k
+    pub holds : test place ≡ true
+
+  pub any-here : (a k x : ℕ) → a ≤ x → x < a + k → test x ≡ true → any test (countFrom a k) ≡ true
+  any-here a zero x l h e = absurd (omega arith)
+  any-here a (suc k) x l h e =
+      ⊎-elim (λ q. or-first (any test (countFrom (suc a) k)) (ap test q ∙ e)) (λ q. or-also (test a) (any-here (suc a) k x q (omega arith) e)) (eq-or-lt-of-le l)
+
+  pub any-where : (a k : ℕ) → any test (countFrom a k) ≡ true → Holding a k
+  any-where a zero e = clash refl e
+  any-where a (suc k) e = go (any-where (suc a) k) (test a) refl e
+    where
+      go : (any test (countFrom (suc a) k) ≡ true → Holding (suc a) k) → (b : Bool) → test a ≡ b → (b || any test (countFrom (suc a) k)) ≡ true → Holding a (suc k)
+      go later true q e = record { place = a; low = omega arith; high = omega arith; holds = q }
+      go later false q e =
+          let w = later e in
+          record { place = w .place; low = omega (arith, w .low); high = omega (arith, w .high); holds = w .holds }
+
+module _ (f : ℕ → ℕ) where
+  pub record Greatest (a k n : ℕ) : Type 0 where
+    pub place : ℕ
+    pub low : a ≤ place
+    pub high : place < a + k
+    pub is : f place ≡ n
+
+  pub most-here : (a k x : ℕ) → a ≤ x → x < a + k → f x ≤ most f (countFrom a k)
+  most-here a zero x l h = absurd (omega arith)
+  most-here a (suc k) x l h =
+      ⊎-elim (λ q. omega (arith, ap f q)) (λ q. omega (arith, most-here (suc a) k x q (omega arith))) (eq-or-lt-of-le l)
+
+  pub most-below : (a k b : ℕ) → ((x : ℕ) → a ≤ x → x < a + k → f x ≤ b) → most f (countFrom a k) ≤ b
+  most-below a zero b g = omega arith
+  most-below a (suc k) b g =
+      let here = g a (omega arith) (omega arith) in
+      let later = most-below (suc a) k b (λ x l h. g x (omega arith) (omega arith)) in
+      omega arith
+
+  pub most-where : (a k : ℕ) → 0 < most f (countFrom a k) → Greatest a k (most f (countFrom a k))
+  most-where a zero h = absurd (omega arith)
+  most-where a (suc k) h = go (most-where (suc a) k) (f a) refl (most f (countFrom (suc a) k)) refl
+    where
+      go : (0 < most f (countFrom (suc a) k) → Greatest (suc a) k (most f (countFrom (suc a) k)))
+          → (x : ℕ) → f a ≡ x → (n : ℕ) → most f (countFrom (suc a) k) ≡ n → Greatest a (suc k) (max (f a) (most f (countFrom (suc a) k)))
+      go later x q zero e = record { place = a; low = omega arith; high = omega arith; is = omega arith }
+      go later x q (suc n) e = pick (later (omega arith)) (eq-or-lt-of-le {n = f a} {m = max (f a) (most f (countFrom (suc a) k))} (omega arith))
+        where
+          pick : Greatest (suc a) k (most f (countFrom (suc a) k)) → (f a ≡ max (f a) (most f (countFrom (suc a) k))) ⊎ (f a < max (f a) (most f (countFrom (suc a) k))) → Greatest a (suc k) (max (f a) (most f (countFrom (suc a) k)))
+          pick w (inl s) = record { place = a; low = omega arith; high = omega arith; is = s }
+          pick w (inr s) = record { place = w .place; low = omega (arith, w .low); high = omega (arith, w .high); is = omega (arith, w .is) }
+
+  -- From a place to a place further on, and from there.
+  pub most-split : (a j k : ℕ) → most f (countFrom a (j + k)) ≡ max (most f (countFrom a j)) (most f (countFrom (a + j) k))
+  most-split a j k = omega (arith, up, down, rest)
+    where
+      all-of : ℕ
+      all-of = most f (countFrom a (j + k))
+
+      down : most f (countFrom a j) ≤ all-of
+      down = most-below a j all-of (λ x l h. most-here a (j + k) x l (omega arith))
+
+      rest : most f (countFrom (a + j) k) ≤ all-of
+      rest = most-below (a + j) k all-of (λ x l h. most-here a (j + k) x (omega arith) (omega arith))
+
+      up : all-of ≤ max (most f (countFrom a j)) (most f (countFrom (a + j) k))
+      up = most-below a (j + k) (max (most f (countFrom a j)) (most f (countFrom (a + j) k))) (λ x l h. ⊎-elim (λ q. omega (arith, most-here a j x l q)) (λ q. omega (arith, most-here (a + j) k x q (omega arith))) (lt-or-le x (a + j)))

@@ -1,0 +1,3 @@
+-- Laws on the definitions of this crate, for its proofs and those of the crates above it.
+pub mod Bounded
+pub mod WhiteLaws

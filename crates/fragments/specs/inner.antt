@@ -1,0 +1,3 @@
+-- Definitions that only the contracts of inner functions need.
+pub mod Most
+pub mod Reach
