@@ -1,3 +1,5 @@
 -- Laws on the definitions of this crate, for its proofs and those of the crates above it.
 pub mod Bounded
 pub mod WhiteLaws
+pub mod BlockLaws
+pub mod ReachLaws

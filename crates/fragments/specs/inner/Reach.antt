@@ -1,12 +1,13 @@
 -- Blocks by where they begin: how far those reach that begin before a place, and whether one begins ahead of it.
 use Prim.Native.Nat.{ℕ, suc, _+_, _-_}
 use mathlib.Core.Path.{_≡_}
-use mathlib.Core.Bool.{Bool, false, not, cond, _&&_}
+use mathlib.Core.Bool.{Bool, true, false, not, cond, _&&_}
 use mathlib.Core.List.{List, [], _∷_}
 use lib.ListN.{length, drop}
 use Rattle.utf8.specs.Lists.{any, below, countFrom, startsWith}
-use Rattle.utf8.specs.Chars.{tail, hasForm}
+use Rattle.utf8.specs.Chars.{tail, hasForm, valid}
 use Rattle.model.specs.Model.{TokenList, tokenList, contents, tokenAt}
+use Rattle.model.specs.Check.{badToken}
 use Rattle.sections.specs.Sections.{whiteLength}
 use Rattle.fragments.specs.Safe.{blocks, blockEnd, blockedBy}
 use Rattle.fragments.specs.inner.Most.{most}
@@ -15,15 +16,37 @@ use Rattle.fragments.specs.inner.Most.{most}
 abbrev pub tokensOf : List ℕ → List ℕ → List Bool → List Bool → TokenList
 tokensOf bytes offsets lstrip rstrip = tokenList bytes offsets [] lstrip rstrip
 
+-- A flag is as asked for.
+abbrev pub isAs : Bool → Bool → Bool
+isAs wanted flag = cond wanted flag (not flag)
+
 -- No UTF8-tail stands at the place.
 abbrev pub Edge : List ℕ → ℕ → Type 0
 Edge text p = hasForm (tail ∷ []) (drop p text) ≡ false
 
-module _ (unguarded : Bool) (t : TokenList) (text : List ℕ) where
+-- The text is valid, and so are the contents, of which none is empty.
+pub record Fine (t : TokenList) (text : List ℕ) : Type 0 where
+  pub text-valid : valid text ≡ true
+  pub contents-fine : badToken (contents t) ≡ false
+
+-- The places from p on that only white space parts from it.
+unfoldable pub placesAhead : List ℕ → ℕ → List ℕ
+placesAhead text p = countFrom p (suc (whiteLength (drop p text)))
+
+module _ (t : TokenList) (text : List ℕ) where
   -- The token of the row stands at s.
   unfoldable pub standsAt : ℕ → ℕ → Bool
   standsAt s row = startsWith (tokenAt t row .content) (drop s text)
 
+  -- A token with lstrip stands at s.
+  unfoldable pub stripsAt : ℕ → Bool
+  stripsAt s = any (λ (row : ℕ). tokenAt t row .lstrip && standsAt s row) (below (length (contents t)))
+
+  -- A token ahead of p, at p itself or behind white space, has p in its block by its lstrip.
+  unfoldable pub blockedAhead : ℕ → Bool
+  blockedAhead p = any stripsAt (placesAhead text p)
+
+module _ (unguarded : Bool) (t : TokenList) (text : List ℕ) where
   -- A block of the list's tokens has the place.
   unfoldable pub blockedIn : ℕ → Bool
   blockedIn p = any (λ (row : ℕ). blockedBy unguarded text p (tokenAt t row)) (below (length (contents t)))
@@ -31,7 +54,7 @@ module _ (unguarded : Bool) (t : TokenList) (text : List ℕ) where
   -- Where the block of the row's token ends, if it stands at s, and else 0.
   unfoldable pub reachOf : ℕ → ℕ → ℕ
   reachOf s row =
-      cond (blocks unguarded (tokenAt t row) && standsAt s row) (blockEnd unguarded text (tokenAt t row) (s + length (tokenAt t row .content))) 0
+      cond (blocks unguarded (tokenAt t row) && standsAt t text s row) (blockEnd unguarded text (tokenAt t row) (s + length (tokenAt t row .content))) 0
 
   -- How far the blocks of what stands at s reach.
   unfoldable pub reachAt : ℕ → ℕ
@@ -44,23 +67,11 @@ module _ (unguarded : Bool) (t : TokenList) (text : List ℕ) where
   -- Where the row's token ends, if it blocks and stands at s and its rstrip is as asked for, and else 0.
   unfoldable pub endOf : Bool → ℕ → ℕ → ℕ
   endOf strip s row =
-      cond (cond strip (tokenAt t row .rstrip) (not (tokenAt t row .rstrip)) && (blocks unguarded (tokenAt t row) && standsAt s row))
-      (s + length (tokenAt t row .content)) 0
+      cond (isAs strip (tokenAt t row .rstrip) && (blocks unguarded (tokenAt t row) && standsAt t text s row)) (s + length (tokenAt t row .content)) 0
 
+  -- How far what stands at s goes, and all that stands from one place up to another.
   unfoldable pub endAt : Bool → ℕ → ℕ
   endAt strip s = most (endOf strip s) (below (length (contents t)))
 
   unfoldable pub endBetween : Bool → ℕ → ℕ → ℕ
   endBetween strip from to = most (endAt strip) (countFrom from (to - from))
-
-  -- A token with lstrip stands at s.
-  unfoldable pub stripsAt : ℕ → Bool
-  stripsAt s = any (λ (row : ℕ). tokenAt t row .lstrip && standsAt s row) (below (length (contents t)))
-
-  -- The places from p on that only white space parts from it.
-  unfoldable pub placesAhead : ℕ → List ℕ
-  placesAhead p = countFrom p (suc (whiteLength (drop p text)))
-
-  -- A block begins ahead of p, at p itself or behind white space, that has p by its lstrip.
-  unfoldable pub blockedAhead : ℕ → Bool
-  blockedAhead p = any stripsAt (placesAhead p)
