@@ -1,13 +1,14 @@
 -- Tests and numbers over the places from one on. Assumes nothing.
 use Prim.Native.Nat.{ℕ, zero, suc, _+_, _-_, _≤_, _<_, max}
-use native.Mathlib.Nat.{eq-or-lt-of-le}
+use native.Mathlib.Nat.{eq-or-lt-of-le, zero-add, add-zero, suc-add}
+use native.Mathlib.Numerals.{add-one}
 use native.Mathlib.Omega.{arith}
 use mathlib.Core.Path.{_≡_, refl, sym, ap, _∙_}
 use mathlib.Core.Bool.{Bool, true, false, _||_}
 use mathlib.Core.Logic.{_⊎_, inl, inr, ⊎-elim}
 use borrow.Author.Tests.{ltb-true, ltb-false}
 use lib.Dec.{ltb}
-use Rattle.utf8.specs.Lists.{any, countFrom}
+use Rattle.utf8.specs.Lists.{any, find, countFrom}
 use Rattle.utf8.proofs.Tests.{either, clash, or-also}
 use Rattle.fragments.specs.inner.Most.{most}
 
@@ -22,7 +23,7 @@ never a f = ⊎-elim (λ e. absurd (f e)) (λ e. e) (either a)
 pub lt-or-le : (m n : ℕ) → (m < n) ⊎ (n ≤ m)
 lt-or-le m n = ⊎-elim (λ e. inl (ltb-true m n e)) (λ e. inr (ltb-false m n e)) (either (ltb m n))
 
-or-first : {a : Bool} (b : Bool) → a ≡ true → (a || b) ≡ true
+pub or-first : {a : Bool} (b : Bool) → a ≡ true → (a || b) ≡ true
 or-first b e = rw e
 
 module _ (test : ℕ → Bool) where
@@ -46,6 +47,22 @@ module _ (test : ℕ → Bool) where
       go later false q e =
           let w = later e in
           record { place = w .place; low = omega (arith, w .low); high = omega (arith, w .high); holds = w .holds }
+
+  -- A loop that tests one place after the other.
+  pub any-step : (row n : ℕ) → row < n → any test (countFrom row (n - row)) ≡ (test row || any test (countFrom (row + 1) (n - (row + 1))))
+  any-step row n h = let more : n - row ≡ suc (n - suc row) = omega arith in rw (more, add-one)
+
+  pub any-stop : (row n : ℕ) → n ≤ row → any test (countFrom row (n - row)) ≡ false
+  any-stop row n h = let none-left : n - row ≡ 0 = omega arith in rw none-left
+
+  -- Places that fail are passed over.
+  pub find-skip : (a j k : ℕ) → ((x : ℕ) → a ≤ x → x < a + j → test x ≡ false) → find test (countFrom a (j + k)) ≡ find test (countFrom (a + j) k)
+  find-skip a zero k f = rw (zero-add, add-zero)
+  find-skip a (suc j) k f =
+      rw (suc-add, f a (omega arith) (omega arith)) (find-skip (suc a) j k (λ x l h. f x (omega arith) (omega arith)) ∙ ap (λ (n : ℕ). find test (countFrom n k)) next)
+    where
+      next : suc a + j ≡ a + suc j
+      next = omega arith
 
 module _ (f : ℕ → ℕ) where
   pub record Greatest (a k n : ℕ) : Type 0 where
@@ -94,3 +111,16 @@ module _ (f : ℕ → ℕ) where
 
       up : all-of ≤ max (most f (countFrom a j)) (most f (countFrom (a + j) k))
       up = most-below a (j + k) (max (most f (countFrom a j)) (most f (countFrom (a + j) k))) (λ x l h. ⊎-elim (λ q. omega (arith, most-here a j x l q)) (λ q. omega (arith, most-here (a + j) k x q (omega arith))) (lt-or-le x (a + j)))
+
+  -- A loop that keeps the greatest so far: its start, one place more, and the end.
+  pub most-start : (n m : ℕ) → n ≡ m → max 0 (most f (countFrom 0 (n - 0))) ≡ most f (countFrom 0 m)
+  most-start n m e = let all-of : n - 0 ≡ m = omega arith in rw all-of (omega arith)
+
+  pub most-next : (row n far : ℕ) → row < n → max far (most f (countFrom row (n - row))) ≡ max (max far (f row)) (most f (countFrom (row + 1) (n - (row + 1))))
+  most-next row n far h =
+      let more : n - row ≡ suc (n - suc row) = omega arith in
+      let here : most f (countFrom row (n - row)) ≡ max (f row) (most f (countFrom (row + 1) (n - (row + 1)))) = rw (more, add-one) in
+      omega (arith, here)
+
+  pub most-ended : (row n far : ℕ) → n ≤ row → max far (most f (countFrom row (n - row))) ≡ far
+  most-ended row n far h = let none-left : n - row ≡ 0 = omega arith in rw none-left (omega arith)

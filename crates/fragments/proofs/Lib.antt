@@ -3,3 +3,5 @@ pub mod Bounded
 pub mod WhiteLaws
 pub mod BlockLaws
 pub mod ReachLaws
+pub mod EndLaws
+pub mod AheadLaws

@@ -1,1 +1,5 @@
 // Where a text may be cut for workers.
+
+mod ahead;
+mod back;
+mod ends;

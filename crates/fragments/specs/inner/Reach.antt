@@ -1,8 +1,9 @@
 -- Blocks by where they begin: how far those reach that begin before a place, and whether one begins ahead of it.
-use Prim.Native.Nat.{ℕ, suc, _+_, _-_}
+use Prim.Native.Nat.{ℕ, suc, _+_, _-_, _≤_, _<_, max}
 use mathlib.Core.Path.{_≡_}
 use mathlib.Core.Bool.{Bool, true, false, not, cond, _&&_}
 use mathlib.Core.List.{List, [], _∷_}
+use lib.Dec.{ltb, leb}
 use lib.ListN.{length, drop}
 use Rattle.utf8.specs.Lists.{any, below, countFrom, startsWith}
 use Rattle.utf8.specs.Chars.{tail, hasForm, valid}
@@ -28,6 +29,21 @@ Edge text p = hasForm (tail ∷ []) (drop p text) ≡ false
 pub record Fine (t : TokenList) (text : List ℕ) : Type 0 where
   pub text-valid : valid text ≡ true
   pub contents-fine : badToken (contents t) ≡ false
+
+-- No content is longer than that.
+pub record Longest (t : TokenList) (n : ℕ) : Type 0 where
+  pub bounds : (row : ℕ) → row < length (contents t) → length (tokenAt t row .content) ≤ n
+
+-- Where a block ends, by where its token ends: without rstrip, and with it, if the token reaches the white space that begins at stop.
+unfoldable pub plainFar : Bool → ℕ → ℕ
+plainFar unguarded e = cond unguarded e (e - 1)
+
+unfoldable pub stripFar : List ℕ → ℕ → ℕ → ℕ
+stripFar text stop e = cond (ltb 0 e && leb stop e) (e + whiteLength (drop e text)) 0
+
+-- How far blocks reach, by the furthest ends of tokens without rstrip and with it.
+unfoldable pub furthest : Bool → List ℕ → ℕ → ℕ → ℕ → ℕ
+furthest unguarded text stop plain strip = max (plainFar unguarded plain) (stripFar text stop strip)
 
 -- The places from p on that only white space parts from it.
 unfoldable pub placesAhead : List ℕ → ℕ → List ℕ
