@@ -4,7 +4,9 @@ use native.Mathlib.Nat.{eq-or-lt-of-le, zero-add, add-zero, suc-add}
 use native.Mathlib.Numerals.{add-one}
 use native.Mathlib.Omega.{arith}
 use mathlib.Core.Path.{_≡_, refl, sym, ap, _∙_}
-use mathlib.Core.Bool.{Bool, true, false, _||_}
+use mathlib.Core.Bool.{Bool, true, false, cond, _||_}
+use mathlib.Core.List.{List, [], _∷_}
+use mathlib.Core.Option.{none, some, Option·none-ne-some, Option·some-injective}
 use mathlib.Core.Logic.{_⊎_, inl, inr, ⊎-elim}
 use borrow.Author.Tests.{ltb-true, ltb-false}
 use lib.Dec.{ltb}
@@ -54,6 +56,32 @@ module _ (test : ℕ → Bool) where
 
   pub any-stop : (row n : ℕ) → n ≤ row → any test (countFrom row (n - row)) ≡ false
   any-stop row n h = let none-left : n - row ≡ 0 = omega arith in rw none-left
+
+  -- What a search finds, and that it finds nothing.
+  pub record Found (a k x : ℕ) : Type 0 where
+    pub low : a ≤ x
+    pub high : x < a + k
+    pub holds : test x ≡ true
+
+  pub find-where : (a k x : ℕ) → find test (countFrom a k) ≡ some x → Found a k x
+  find-where a zero x e = absurd (Option·none-ne-some x e)
+  find-where a (suc k) x e = go (find-where (suc a) k x) (test a) refl e
+    where
+      go : (find test (countFrom (suc a) k) ≡ some x → Found (suc a) k x) → (b : Bool) → test a ≡ b → cond b (some a) (find test (countFrom (suc a) k)) ≡ some x → Found a (suc k) x
+      go later true q e =
+          let same : a ≡ x = Option·some-injective a x e in
+          record { low = omega arith; high = omega arith; holds = ap test (sym same) ∙ q }
+      go later false q e =
+          let f = later e in
+          record { low = omega (arith, f .low); high = omega (arith, f .high); holds = f .holds }
+
+  pub find-nothing : (xs : List ℕ) → find test xs ≡ none → any test xs ≡ false
+  find-nothing [] e = refl
+  find-nothing (x ∷ xs) e = go (test x) (find-nothing xs) e
+    where
+      go : (b : Bool) → (find test xs ≡ none → any test xs ≡ false) → cond b (some x) (find test xs) ≡ none → (b || any test xs) ≡ false
+      go true later e = absurd (Option·none-ne-some x (sym e))
+      go false later e = later e
 
   -- Places that fail are passed over.
   pub find-skip : (a j k : ℕ) → ((x : ℕ) → a ≤ x → x < a + j → test x ≡ false) → find test (countFrom a (j + k)) ≡ find test (countFrom (a + j) k)

@@ -5,3 +5,6 @@ pub mod BlockLaws
 pub mod ReachLaws
 pub mod EndLaws
 pub mod AheadLaws
+pub mod FirstLaws
+pub mod SearchLaws
+pub mod CutLaws
