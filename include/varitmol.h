@@ -33,7 +33,7 @@ extern "C" {
 
 /* How many words varitmol_prepare derives: of the byte-adjacency rows, and of the index. */
 #define VARITMOL_ADJACENCY_LEN 1024
-#define VARITMOL_INDEX_LEN 4423
+#define VARITMOL_INDEX_LEN 4936
 
 /* The kinds of a step. */
 #define VARITMOL_PREPEND 0
@@ -98,6 +98,38 @@ varitmol_answer varitmol_check(
 /* Steps and metaspace on the whole text. `first` says whether metaspace runs as in a first section. After 0 the bytes stand in out,
  * followed by zeros to its end; after a refusal out is as it was. Scratch is zero after 0, 11 and 12 and else as it was. */
 varitmol_answer varitmol_normalise(
+    const uint8_t *piece_bytes, size_t piece_bytes_len,
+    const uint32_t *piece_offsets, size_t piece_offsets_len,
+    const uint32_t *lookup, size_t lookup_len,
+    const uint32_t *fallback, size_t fallback_len,
+    const uint32_t *left, size_t left_len,
+    const uint32_t *right, size_t right_len,
+    const uint32_t *result, size_t result_len,
+    const uint32_t *rank, size_t rank_len,
+    const uint8_t *first_bytes, size_t first_bytes_len,
+    const uint32_t *first_offsets, size_t first_offsets_len,
+    const uint32_t *first_ids, size_t first_ids_len,
+    const bool *first_lstrip, size_t first_lstrip_len,
+    const bool *first_rstrip, size_t first_rstrip_len,
+    const uint8_t *second_bytes, size_t second_bytes_len,
+    const uint32_t *second_offsets, size_t second_offsets_len,
+    const uint32_t *second_ids, size_t second_ids_len,
+    const bool *second_lstrip, size_t second_lstrip_len,
+    const bool *second_rstrip, size_t second_rstrip_len,
+    const uint8_t *step_bytes, size_t step_bytes_len,
+    const uint8_t *step_kinds, size_t step_kinds_len,
+    const uint32_t *step_spans, size_t step_spans_len,
+    uint8_t metaspace, uint8_t split,
+    const uint8_t *text, size_t text_len,
+    bool first,
+    uint8_t *out, size_t out_len,
+    uint8_t *scratch_a, size_t scratch_a_len,
+    uint8_t *scratch_b, size_t scratch_b_len);
+
+/* varitmol_normalise without the model check, for whoever uses one model for many texts. The caller has one duty: varitmol_check
+ * answers 0 for these columns, steps and metaspace. The call does not test it, and promises nothing where it is not so. Of the
+ * answers 1 to 8 it gives only 1: for a text that is too long, and for steps or metaspace that are no such numbers. */
+varitmol_answer varitmol_normalise_checked(
     const uint8_t *piece_bytes, size_t piece_bytes_len,
     const uint32_t *piece_offsets, size_t piece_offsets_len,
     const uint32_t *lookup, size_t lookup_len,

@@ -49,7 +49,7 @@ def columns(pieces, rows):
 
 def main():
     check, prepare = (function(sys.argv[1], name) for name in ("varitmol_check", "varitmol_prepare"))
-    derived = [(ctypes.c_uint64 * 1024)(), ctypes.c_size_t(1024)] + words([0] * 4423)
+    derived = [(ctypes.c_uint64 * 1024)(), ctypes.c_size_t(1024)] + words([0] * 4936)
     for size in SIZES:
         pieces, rows = model(*size, "", "▁▁" + LETTERS)
         usual, twice = (best_time(check, columns(p, rows), 10) / 1e6 for p in (pieces, pieces + [max(pieces, key=len)]))

@@ -8,20 +8,19 @@ use mathlib.Core.Option.{Option}
 use mathlib.Core.List.{List, [], _∷_, _++_, map}
 use borrow.Author.Tests.{ltb-true, ltb-false}
 use lib.Dec.{ltb}
-use lib.ListN.{length, getD, take, drop, length-take, List·getD-eq-default}
-use lib.Seq.{slice, take-at, drop-at, take-all, drop-append-add, getD-append-add, getD-take, getD-drop}
+use lib.ListN.{length, take, length-take, List·getD-eq-default}
+use lib.Seq.{slice, getD-take, getD-drop}
 use Rattle.utf8.specs.Lists.{isEmpty, joinMap, sum}
 use Rattle.utf8.proofs.Tests.{either}
+use Rattle.utf8.proofs.Places.{slice-of}
 use Rattle.model.specs.Model.{Model, Row, piecesOf}
 use Rattle.model.specs.Check.{checkNumber}
 use Rattle.model.proofs.Accepted.{Accepted, accepted}
-use Rattle.index.specs.Index.{firstBytes, markId, bucketShift, buckets}
-use Rattle.units.specs.Kinds.{kindOf, rawPath}
+use Rattle.units.specs.Kinds.{Crossing}
 use Rattle.units.specs.Units.{cutBy}
 use Rattle.units.specs.Adjacency.{pairNoted}
-use Rattle.units.specs.Derived.{noting, namedCrossings}
+use Rattle.units.specs.Derived.{namedCrossings}
 use Rattle.units.specs.declared.WordSplit.{WordSplit}
-use Rattle.units.specs.declared.WordSplit.the-variants.{SpaceRuns, EveryMark, None}
 use Rattle.units.specs.declared.RawPrepend.{RawPrepend}
 use Rattle.units.proofs.AdjacencyLaws.{Small}
 use Rattle.merge.specs.Start.{startingIdsBy}
@@ -30,71 +29,17 @@ use Rattle.merge.specs.inner.Turns.{rowIn}
 use Rattle.merge.specs.declared.Symbols.{Symbols}
 use Rattle.merge.proofs.Laying.{laid-fits}
 use Rattle.merge.proofs.ModelLaws.{ownBy, rowBy}
-use Rattle.prepare.specs.Layout.{indexRow}
-use Rattle.prepare.specs.Numbers.{kindNumber, kindFrom, rawPathNumber}
 use Rattle.prepare.specs.Prepare.{derivedAdjacency, derivedIndex}
-use Rattle.prepare.proofs.LayoutLaws.{length-firstBytes, length-buckets}
-use Rattle.prepare.proofs.PrepareLaws.{noted-long}
+use Rattle.prepare.proofs.ReadLaws.{kind-read, count-read, crossings-at, mark-at, shift-at, first-bytes-at, buckets-at}
 use Rattle.sections.specs.Sections.{Item, token, plain, takenApart, Section, bytesOf}
 use Rattle.encode.specs.Parts.{Stretch, virtualMark, stretch, rawStretch}
-use Rattle.encode.specs.Encode.{idsOf, startsOf, dropsOf}
+use Rattle.encode.specs.Encode.{idsOf, startsOf, dropsOf, held}
 use Rattle.encode.specs.inner.Writers.{Writer, stretchWriter}
 use Rattle.encode.specs.inner.Tables.{Tables, words, ownIn, rowsIn, cutsIn, stretchIn}
 use Rattle.encode.specs.inner.Passes.{partStarts, partDrops, partsSymbols, idWriter, partWriter, partsWriter}
 use Rattle.encode.proofs.WriterLaws.{Each, none-left, one-more, Fits, fits-all}
 use Rattle.encode.proofs.PassLaws.{keeps-part}
 use Rattle.encode.proofs.ModelLaws.{cutsBy, stretch-counted, stretch-fits}
-
--- ---- the parts of the index
-
-module _ (kind path count : ℕ) (noted : List ℕ) (long : length noted ≡ 64) (pieces : List (List ℕ)) (lookup left : List ℕ) where
-  abbrev row : List ℕ
-  row = indexRow kind path count noted pieces lookup left
-
-  abbrev shift : ℕ
-  shift = bucketShift (length pieces)
-
-  abbrev behind : List ℕ
-  behind = markId pieces lookup ∷ shift ∷ firstBytes pieces lookup ++ buckets left shift
-
-  kind-at : getD row 0 0 ≡ kind
-  unfolding indexRow
-  kind-at = refl
-
-  count-at : getD row 2 0 ≡ count
-  unfolding indexRow
-  count-at = refl
-
-  noted-at : words 3 67 row ≡ noted
-  unfolding indexRow
-  noted-at = take-at noted behind 64 long
-
-  past : (n : ℕ) → drop (64 + n) (noted ++ behind) ≡ drop n behind
-  past n = ap (λ (m : ℕ). drop (m + n) (noted ++ behind)) (sym long) ∙ drop-append-add noted behind n
-
-  mark-at : getD row 67 0 ≡ markId pieces lookup
-  unfolding indexRow
-  mark-at = ap (λ (m : ℕ). getD (noted ++ behind) (m + 0) 0) (sym long) ∙ getD-append-add noted behind 0 0
-
-  shift-at : getD row 68 0 ≡ shift
-  unfolding indexRow
-  shift-at = ap (λ (m : ℕ). getD (noted ++ behind) (m + 1) 0) (sym long) ∙ getD-append-add noted behind 1 0
-
-  first-at : words 69 326 row ≡ firstBytes pieces lookup
-  unfolding indexRow
-  first-at = ap (take 257) (past 2) ∙ take-at (firstBytes pieces lookup) (buckets left shift) 257 (length-firstBytes pieces lookup)
-
-  buckets-at : words 326 4423 row ≡ buckets left shift
-  unfolding indexRow
-  buckets-at =
-      ap (take 4097) (past 259 ∙ drop-at (firstBytes pieces lookup) (buckets left shift) 257 (length-firstBytes pieces lookup))
-      ∙ take-all 4097 (buckets left shift) (omega (arith, length-buckets left shift))
-
-pub kind-again : (kind : WordSplit) → kindFrom (kindNumber kind) ≡ kind
-unfolding kindFrom kindNumber
-kind-again SpaceRuns = refl
-kind-again EveryMark = refl
-kind-again None = refl
 
 -- ---- by the model
 
@@ -161,36 +106,23 @@ module _ (m : Model) (fine : checkNumber m ≡ 0) where
   abbrev ok : Accepted m
   ok = accepted m fine
 
-  noted : List ℕ
-  noted = noting (piecesOf m) (kindOf m) .noted
-
-  long : length noted ≡ 64
-  unfolding noted kindOf
-  long = noted-long (piecesOf m) (m .metaspace)
+  -- a part of the index, as it is read
+  read : (from to : ℕ) {part : List ℕ} → slice from to (derivedIndex m) ≡ part → words from to (derivedIndex m) ≡ part
+  read from to e = slice-of from to (derivedIndex m) ∙ e
 
   pub own-derived : ownIn (derivedIndex m) (m .pieceBytes) (m .pieceOffsets) (m .lookup) ≡ ownBy m ok
-  unfolding ownIn derivedIndex noted
-  own-derived =
-      let k = kindNumber (kindOf m) in
-      let p = rawPathNumber (rawPath m) in
-      let c = noting (piecesOf m) (kindOf m) .count in
-      ap₂ (ownFound (m .pieceBytes) (m .pieceOffsets) (m .lookup)) (first-at k p c noted long (piecesOf m) (m .lookup) (m .left)) (mark-at k p c noted long (piecesOf m) (m .lookup) (m .left))
+  unfolding ownIn
+  own-derived = ap₂ (ownFound (m .pieceBytes) (m .pieceOffsets) (m .lookup)) (read 69 326 (first-bytes-at m)) (mark-at m)
 
   pub rows-derived : rowsIn (tablesOf m) ≡ rowBy m ok
-  unfolding rowsIn derivedIndex noted
-  rows-derived =
-      let k = kindNumber (kindOf m) in
-      let p = rawPathNumber (rawPath m) in
-      let c = noting (piecesOf m) (kindOf m) .count in
-      ap₂ (rowIn (m .left) (m .right) (m .result) (m .rank)) (buckets-at k p c noted long (piecesOf m) (m .lookup) (m .left)) (shift-at k p c noted long (piecesOf m) (m .lookup) (m .left))
+  unfolding rowsIn
+  rows-derived = ap₂ (rowIn (m .left) (m .right) (m .result) (m .rank)) (read 326 4423 (buckets-at m)) (shift-at m)
 
   pub cuts-derived : (raw : Bool) (bytes : List ℕ) → cutsIn (tablesOf m) raw bytes ≡ cutsBy m fine raw bytes
-  unfolding cutsIn derivedIndex derivedAdjacency noted piecesOf indexRow kindNumber noting
+  unfolding cutsIn derivedAdjacency piecesOf
   cuts-derived raw bytes =
-      let k = kindNumber (kindOf m) in
-      let p = rawPathNumber (rawPath m) in
-      let c = noting (piecesOf m) (kindOf m) .count in
-      ap₂ (λ (kind : WordSplit) (named : List ℕ). cutBy kind (namedCrossings (piecesOf m) named c) (pairNoted (derivedAdjacency m)) raw bytes) (kind-again (kindOf m)) (noted-at k p c noted long (piecesOf m) (m .lookup) (m .left))
+      ap₂ (λ (kind : WordSplit) (named : List Crossing). cutBy kind named (pairNoted (derivedAdjacency m)) raw bytes) (kind-read m)
+      (ap₂ (namedCrossings (piecesOf m)) (read 3 67 (crossings-at m)) (count-read m))
 
   starts-meant : {part : Item Stretch} → OfBytes part → partStarts (ownBy m ok) (m .fallback) part ≡ startsOf m part
   unfolding partStarts startsOf unitSymbols
@@ -217,7 +149,7 @@ module _ (m : Model) (fine : checkNumber m ≡ 0) where
 
   -- The first pass counts what the definitions count,
   pub parts-counted : (parts : List (Item Stretch)) → Each OfBytes parts → (room : ℕ)
-      → _≡_ {A = Symbols} (partsSymbols (ownIn (derivedIndex m) (m .pieceBytes) (m .pieceOffsets) (m .lookup)) (m .fallback) parts room) (record { count = min (sum (map (startsOf m) parts)) room; drops = sum (map (dropsOf m) parts) })
+      → _≡_ {A = Symbols} (partsSymbols (ownIn (derivedIndex m) (m .pieceBytes) (m .pieceOffsets) (m .lookup)) (m .fallback) parts room) (record { count = min (sum (map (startsOf m) parts)) room; drops = held (sum (map (dropsOf m) parts)) })
   unfolding partsSymbols
   parts-counted parts small room =
       rw own-derived

@@ -2,9 +2,13 @@
 pub mod WriterLaws
 pub mod StretchLaws
 pub mod PassLaws
+pub mod ItemLaws
 pub mod WalkLaws
 pub mod NormalLaws
 pub mod PartLaws
+pub mod SteppedLaws
 pub mod ModelLaws
 pub mod DerivedLaws
 pub mod OutcomeLaws
+pub mod BytesLaws
+pub mod EncodeLaws

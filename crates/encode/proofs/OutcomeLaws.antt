@@ -1,8 +1,8 @@
 -- Laws of what encoding leaves: by the two passes, and by an accepted model with its derived rows. Assumes nothing.
 use Prim.Native.Nat.{ℕ, _+_, _-_, _≤_, _<_, min}
 use native.Mathlib.Omega.{arith}
-use mathlib.Core.Path.{_≡_, sym, ap, _∙_}
-use mathlib.Core.Bool.{Bool, cond}
+use mathlib.Core.Path.{_≡_, sym, ap, ap₂, _∙_}
+use mathlib.Core.Bool.{Bool, false, cond}
 use mathlib.Core.Logic.{⊎-elim}
 use mathlib.Core.List.{List, _++_, map}
 use borrow.Author.Tests.{lt-ltb, le-ltb, ltb-true, ltb-false}
@@ -13,7 +13,7 @@ use Rattle.utf8.proofs.Tests.{either}
 use Rattle.utf8.proofs.Fronts.{length-row}
 use Rattle.model.specs.Answers.{zeros, done, refused, filled, placeOf, Outcome, outcome}
 use Rattle.model.specs.Check.{checkNumber}
-use Rattle.model.specs.Model.{Model, TokenList, contents, strings}
+use Rattle.model.specs.Model.{Model, TokenList}
 use Rattle.model.specs.declared.Answer.{Answer}
 use Rattle.units.specs.Kinds.{rawPath}
 use Rattle.units.specs.declared.RawPrepend.{RawPrepend}
@@ -21,24 +21,24 @@ use Rattle.units.specs.declared.RawPath.the-variants.{Present}
 use Rattle.units.proofs.AdjacencyLaws.{Small}
 use Rattle.merge.specs.inner.Turns.{Merged}
 use Rattle.merge.specs.declared.Symbols.{Symbols}
+use Rattle.normalise.specs.Normalise.{outgrows}
 use Rattle.sections.specs.Sections.{Item, takenApart, sections}
-use Rattle.sections.specs.inner.Seek.{firstBytes}
+use Rattle.sections.specs.Beginnings.{beginnings}
+use Rattle.encode.specs.declared.Counted.{Counted}
+use Rattle.encode.specs.declared.Counted.the-variants.{Counts, TooLong}
 use Rattle.encode.specs.Parts.{Stretch, rawStretch, stretchesOf, parts}
-use Rattle.encode.specs.Encode.{idsOf, encodedIds, dropsOf, drops, startsOf, startingCount}
+use Rattle.encode.specs.Encode.{idsOf, encodedIds, dropsOf, drops, startsOf, startingCount, held}
 use Rattle.encode.specs.inner.Tables.{Tables, ownIn}
-use Rattle.encode.specs.inner.Passes.{partsSymbols, partsWriter, partsOutcome}
+use Rattle.encode.specs.inner.Passes.{partsSymbols, partsWriter, partsOutcome, counted, itemOutputs, Normal, sectionStretches, sectionOutputs, normalOutcome}
 use Rattle.encode.proofs.WriterLaws.{Each}
 use Rattle.encode.proofs.PassLaws.{keeps-parts}
+use Rattle.encode.proofs.ItemLaws.{counts-found, long-found}
 use Rattle.encode.proofs.DerivedLaws.{tablesOf, OfBytes, raw-bytes, parts-counted, parts-written}
 
-pub first-long : (contents : List (List ℕ)) {first : List ℕ} (n : ℕ) → first ≡ firstBytes contents n → n ≡ length first
-unfolding firstBytes
-first-long contents n e = sym (ap length e ∙ length-row _ n)
-
 -- A row of first bytes knows its own length.
-pub first-own : (t : TokenList) {first : List ℕ} (n : ℕ) → first ≡ firstBytes (strings (t .bytes) (t .offsets)) n → first ≡ firstBytes (contents t) (length first)
-unfolding contents
-first-own t n e = e ∙ ap (firstBytes (strings (t .bytes) (t .offsets))) (first-long _ n e)
+pub begins-own : (contents : List (List ℕ)) {row : List ℕ} (n : ℕ) → row ≡ beginnings contents n → row ≡ beginnings contents (length row)
+unfolding beginnings
+begins-own contents n e = e ∙ ap (beginnings contents) (sym (ap length e ∙ length-row _ n))
 
 module _ (t : Tables) (parts : List (Item Stretch)) (out : List ℕ) where
   module _ {s : Symbols} (counted : s ≡ partsSymbols (ownIn (t .index) (t .pieceBytes) (t .pieceOffsets) (t .lookup)) (t .fallback) parts (length out + 1)) where
@@ -62,10 +62,42 @@ module _ (t : Tables) (parts : List (Item Stretch)) (out : List ℕ) where
         omega
         (arith, ap length e, length-append (take k middle) (zeros (length middle - k)), length-take k middle, length-replicate {A = ℕ} (length middle - k) 0, written-inside, ap (λ (d : Merged). length (d .ids)) written, keeps-parts t parts .long out)
 
+-- A text that is normalized, by what the first pass found.
+module _ (t : Tables) (n : Normal) (first : TokenList) (text : List ℕ) (room : ℕ) (out : List ℕ) where
+  abbrev long : Bool
+  long = outgrows (joinMap (itemOutputs (sectionOutputs n text)) (sections first text)) room
+
+  abbrev parts-of : List (Item Stretch)
+  parts-of = takenApart (sectionStretches n text) (sections first text)
+
+  abbrev symbols : Symbols
+  symbols = partsSymbols (ownIn (t .index) (t .pieceBytes) (t .pieceOffsets) (t .lookup)) (t .fallback) parts-of (length out + 1)
+
+  module _ {r : Counted} (e : r ≡ counted long symbols) where
+    pub normal-long : r ≡ TooLong → {x : Answer} → x ≡ refused 11 0 → _≡_ {A = Outcome} (record { answer = x; out = out }) (normalOutcome t n first text room out)
+    unfolding normalOutcome
+    normal-long f g = rw (long-found long symbols (sym f ∙ e), g)
+
+    module _ {c d : ℕ} (f : r ≡ Counts c d) where
+      pub normal-fine : long ≡ false
+      normal-fine = counts-found long symbols (sym f ∙ e) .0
+
+      told : _≡_ {A = Symbols} (record { count = c; drops = d }) symbols
+      told = let h = counts-found long symbols (sym f ∙ e) in ap₂ {C = Symbols} (λ (n : ℕ) (m : ℕ). record { count = n; drops = m }) (h .1) (h .2)
+
+      pub normal-short : {x : Answer} → x ≡ refused 12 0 → length out < c → _≡_ {A = Outcome} (record { answer = x; out = out }) (normalOutcome t n first text room out)
+      unfolding normalOutcome
+      normal-short g h = rw normal-fine (outcome-short t parts-of out told g h)
+
+      pub normal-written : {x : Answer} {k : ℕ} {middle last : List ℕ} → _≡_ {A = Merged} (record { count = k; ids = middle }) (partsWriter t parts-of out) → last ≡ take k middle ++ zeros (length middle - k)
+          → x ≡ done k d 0 → c ≤ length out → _≡_ {A = Outcome} (record { answer = x; out = last }) (normalOutcome t n first text room out)
+      unfolding normalOutcome
+      normal-written written is g h = rw normal-fine (outcome-written t parts-of out told written is g h)
+
 -- On an accepted model with its derived rows it is what the definitions say of these parts.
 pub outcome-meant : (m : Model) → checkNumber m ≡ 0 → (parts : List (Item Stretch)) → Each OfBytes parts → (text out : List ℕ)
     → let number = cond {A = ℕ} (ltb (length out) (sum (map (startsOf m) parts))) 12 0 in
-    partsOutcome (tablesOf m) parts out ≡ outcome number (placeOf number text) (done (length (joinMap (idsOf m) parts)) (sum (map (dropsOf m) parts)) 0) (joinMap (idsOf m) parts) out
+    partsOutcome (tablesOf m) parts out ≡ outcome number (placeOf number text) (done (length (joinMap (idsOf m) parts)) (held (sum (map (dropsOf m) parts))) 0) (joinMap (idsOf m) parts) out
 unfolding partsOutcome outcome placeOf filled
 outcome-meant m fine parts small text out =
     rw (parts-counted m fine parts small (length out + 1))
@@ -85,7 +117,7 @@ outcome-meant m fine parts small text out =
 pub raw-meant : (m : Model) → checkNumber m ≡ 0 → (prepend : RawPrepend) → rawPath m ≡ Present prepend → (continuation : Bool) (text : List ℕ) → Small text → (out : List ℕ)
     → let number = cond {A = ℕ} (ltb (length out) (startingCount m continuation text)) 12 0 in
     partsOutcome (tablesOf m) (takenApart (rawStretch prepend continuation text) (sections (m .first) text)) out
-    ≡ outcome number (placeOf number text) (done (length (encodedIds m continuation text)) (drops m continuation text) 0) (encodedIds m continuation text) out
+    ≡ outcome number (placeOf number text) (done (length (encodedIds m continuation text)) (held (drops m continuation text)) 0) (encodedIds m continuation text) out
 unfolding startingCount encodedIds drops parts stretchesOf
 raw-meant m fine prepend e continuation text small out =
     rw e (outcome-meant m fine (takenApart (rawStretch prepend continuation text) (sections (m .first) text)) (raw-bytes prepend continuation text small (sections (m .first) text)) text out)

@@ -31,10 +31,11 @@ use Rattle.merge.specs.inner.Laid.{laid, ownFound, markedChars, unitSymbols}
 use Rattle.merge.specs.inner.Turns.{rowIn, Merged}
 use Rattle.merge.specs.declared.Symbols.{Symbols}
 use Rattle.merge.proofs.Laying.{length-laid}
-use Rattle.prepare.specs.Layout.{indexLength, kindAt, crossingCountAt, crossingsAt, markIdAt, shiftAt, firstBytesAt, bucketsAt}
+use Rattle.prepare.specs.Layout.{kindAt, crossingCountAt, crossingsAt, markIdAt, shiftAt, firstBytesAt, bucketsAt, firstTokensAt}
 use Rattle.prepare.specs.Numbers.{kindFrom}
 use Rattle.sections.specs.Sections.{Item, token, plain, bytesOf}
 use Rattle.encode.specs.Parts.{Stretch, prependsMark, virtualMark, stretch, rawStretch}
+use Rattle.encode.specs.Encode.{held}
 use Rattle.encode.specs.inner.Writers.{Writer, inTurn, unitWriter, stretchWriter, unitWriters}
 use Rattle.encode.specs.inner.Tables.{Tables, words, ownIn, rowsIn, cutsIn, stretchIn}
 use Rattle.encode.specs.inner.Passes.{partStarts, partDrops, partsSymbols, idWriter, partWriter, partsWriter}
@@ -84,6 +85,23 @@ module _ (prepend : RawPrepend) (continuation opening : Bool) (bytes : List ℕ)
   unfolding virtualMark
   mark-later o = rw (o, and-false continuation)
 
+-- ---- a stretch has no more characters than bytes, and one
+
+chars-few : (t : List ℕ) → length (chars t) ≤ length t
+chars-few = by-length (λ (t : List ℕ). length (chars t) ≤ length t) turn
+  where
+    turn : (t : List ℕ) → ((u : List ℕ) → length u < length t → length (chars u) ≤ length u) → length (chars t) ≤ length t
+    turn [] less = omega (arith, ap length chars-nil)
+    turn (b ∷ u) less =
+        let t = b ∷ u in
+        let w = max 1 (charWidth t) in
+        omega (arith, ap length (chars-step t (omega arith)), less (drop w t) (omega (arith, length-drop w t)), length-drop w t)
+
+marked-few : (virtual raw : Bool) (bytes : List ℕ) → length (markedChars virtual raw bytes) ≤ length bytes + 1
+unfolding markedChars unitChars
+marked-few true raw bytes = omega (arith, length-map (chars bytes) (asMark raw), chars-few bytes)
+marked-few false raw bytes = omega (arith, length-map (chars bytes) (asMark raw), chars-few bytes)
+
 -- ---- one section
 
 module _ (own : List ℕ → Option ℕ) (fallback : List ℕ) (bytes : List ℕ) (virtual raw : Bool) (room : ℕ) where
@@ -91,25 +109,31 @@ module _ (own : List ℕ → Option ℕ) (fallback : List ℕ) (bytes : List ℕ
   unfolding partsSymbols stretch
   nothing-counted e = rw (empty-by-length bytes, e) (rw (zero-min room))
 
-  pub section-counted : (length bytes ≡ 0 → ⊥) → unitSymbols own fallback (markedChars virtual raw bytes) room ≡ partsSymbols own fallback (stretch bytes virtual raw) room
+  -- A buffer has less than 2^63 bytes, so an answer holds the drops of one stretch.
+  pub section-counted : (length bytes ≡ 0 → ⊥) → length bytes < 9223372036854775808 → unitSymbols own fallback (markedChars virtual raw bytes) room ≡ partsSymbols own fallback (stretch bytes virtual raw) room
   unfolding partsSymbols stretch unitSymbols partStarts partDrops
-  section-counted e = rw (empty-by-length bytes, ne-eqb (length bytes) 0 e) (rw (add-zero (length (joinMap (startingIdsBy own fallback) (markedChars virtual raw bytes))), add-zero (lists.count (isDroppedBy own fallback) (markedChars virtual raw bytes))))
+  section-counted e h =
+      let all = markedChars virtual raw bytes in
+      let lost = lists.count (isDroppedBy own fallback) all in
+      let whole : lost ≡ held (lost + 0) = omega (arith, count-within (isDroppedBy own fallback) all, marked-few virtual raw bytes) in
+      rw (empty-by-length bytes, ne-eqb (length bytes) 0 e)
+      (rw (add-zero (length (joinMap (startingIdsBy own fallback) all))) (ap {B = Symbols} (λ (n : ℕ). record { count = min (length (joinMap (startingIdsBy own fallback) all)) room; drops = n }) whole))
 
 -- The count by the index.
 pub stretch-told : (index pieceBytes pieceOffsets lookup fallback bytes : List ℕ) (virtual raw : Bool) (room : ℕ) {id : ℕ} {s : Symbols}
     → s ≡ unitSymbols (ownFound pieceBytes pieceOffsets lookup (words firstBytesAt bucketsAt index) id) fallback (markedChars virtual raw bytes) room
-    → id ≡ getD index markIdAt 0 → (length bytes ≡ 0 → ⊥)
+    → id ≡ getD index markIdAt 0 → (length bytes ≡ 0 → ⊥) → length bytes < 9223372036854775808
     → s ≡ partsSymbols (ownIn index pieceBytes pieceOffsets lookup) fallback (stretch bytes virtual raw) room
 unfolding ownIn
-stretch-told index pieceBytes pieceOffsets lookup fallback bytes virtual raw room e i some =
+stretch-told index pieceBytes pieceOffsets lookup fallback bytes virtual raw room e i some short =
     e
     ∙ ap (λ (id : ℕ). unitSymbols (ownFound pieceBytes pieceOffsets lookup (words firstBytesAt bucketsAt index) id) fallback (markedChars virtual raw bytes) room) i
-    ∙ section-counted (ownIn index pieceBytes pieceOffsets lookup) fallback bytes virtual raw room some
+    ∙ section-counted (ownIn index pieceBytes pieceOffsets lookup) fallback bytes virtual raw room some short
 
 -- The writer by the index.
 pub stretch-found : (t : Tables) (virtual raw : Bool) (bytes out : List ℕ) {kind : WordSplit} {count id shift : ℕ} {done : Merged}
     → done
-    ≡ stretchWriter (rowIn (t .left) (t .right) (t .result) (t .rank) (words bucketsAt indexLength (t .index)) shift) (ownFound (t .pieceBytes) (t .pieceOffsets) (t .lookup) (words firstBytesAt bucketsAt (t .index)) id) (t .fallback) (cutBy kind (namedCrossings (strings (t .pieceBytes) (t .pieceOffsets)) (words crossingsAt markIdAt (t .index)) count) (pairNoted (t .adjacency)) raw bytes) virtual raw bytes out
+    ≡ stretchWriter (rowIn (t .left) (t .right) (t .result) (t .rank) (words bucketsAt firstTokensAt (t .index)) shift) (ownFound (t .pieceBytes) (t .pieceOffsets) (t .lookup) (words firstBytesAt bucketsAt (t .index)) id) (t .fallback) (cutBy kind (namedCrossings (strings (t .pieceBytes) (t .pieceOffsets)) (words crossingsAt markIdAt (t .index)) count) (pairNoted (t .adjacency)) raw bytes) virtual raw bytes out
     → kind ≡ kindFrom (getD (t .index) kindAt 0) → count ≡ getD (t .index) crossingCountAt 0 → id ≡ getD (t .index) markIdAt 0 → shift ≡ getD (t .index) shiftAt 0
     → done ≡ stretchIn t virtual raw bytes out
 unfolding stretchIn ownIn rowsIn cutsIn
@@ -181,23 +205,24 @@ sum-append f (x ∷ xs) ys = omega (arith, sum-append f xs ys)
 pub record Tallying (own : List ℕ → Option ℕ) (fallback : List ℕ) (whole rest : List (Item Stretch)) (room n d : ℕ) : Type 0 where
   pub within : n ≤ room
   pub counted : min (sum (map (partStarts own fallback) whole)) room ≡ n + min (sum (map (partStarts own fallback) rest)) (room - n)
-  pub dropped : sum (map (partDrops own fallback) whole) ≡ d + sum (map (partDrops own fallback) rest)
+  pub dropped : held (sum (map (partDrops own fallback) whole)) ≡ held (d + sum (map (partDrops own fallback) rest))
+  pub few : d ≡ held d
 
 pub tallying-start : (own : List ℕ → Option ℕ) (fallback : List ℕ) (whole : List (Item Stretch)) (room : ℕ) → Tallying own fallback whole whole room 0 0
-tallying-start own fallback whole room = record { within = omega arith; counted = omega arith; dropped = sym (zero-add _) }
+tallying-start own fallback whole room = record { within = omega arith; counted = omega arith; dropped = omega arith; few = omega arith }
 
 module _ {own : List ℕ → Option ℕ} {fallback : List ℕ} {whole : List (Item Stretch)} {room n d : ℕ} where
   pub tallying-next : {left : List (Item Stretch)} → Tallying own fallback whole left room n d → (parts rest : List (Item Stretch)) → left ≡ parts ++ rest → {s : Symbols} → s ≡ partsSymbols own fallback parts (room - n)
-      → Tallying own fallback whole rest room (n + s .count) (d + s .drops)
+      → {more : ℕ} → more ≡ held (d + s .drops) → Tallying own fallback whole rest room (n + s .count) more
   unfolding partsSymbols
-  tallying-next {left} g parts rest is {s} e =
+  tallying-next {left} g parts rest is {s} e {more} f =
       let starts = partStarts own fallback in
       let drops = partDrops own fallback in
       let c : s .count ≡ min (sum (map starts parts)) (room - n) = ap (λ (s : Symbols). s .count) e in
-      let x : s .drops ≡ sum (map drops parts) = ap (λ (s : Symbols). s .drops) e in
+      let x : s .drops ≡ held (sum (map drops parts)) = ap (λ (s : Symbols). s .drops) e in
       let l : sum (map starts left) ≡ sum (map starts parts) + sum (map starts rest) = rw is (sum-append starts parts rest) in
       let m : sum (map drops left) ≡ sum (map drops parts) + sum (map drops rest) = rw is (sum-append drops parts rest) in
-      record { within = omega (arith, g .within); counted = omega (arith, g .counted, g .within); dropped = omega (arith, g .dropped) }
+      record { within = omega (arith, g .within); counted = omega (arith, g .counted, g .within); dropped = omega (arith, g .dropped); few = omega arith }
 
   module _ {left : List (Item Stretch)} (g : Tallying own fallback whole left room n d) where
     -- A token is one more, where there is room for it.
@@ -206,49 +231,21 @@ module _ {own : List ℕ → Option ℕ} {fallback : List ℕ} {whole : List (It
     tallying-token id rest is h =
         let l : sum (map (partStarts own fallback) left) ≡ 1 + sum (map (partStarts own fallback) rest) = rw is in
         let m : sum (map (partDrops own fallback) left) ≡ 0 + sum (map (partDrops own fallback) rest) = rw is in
-        record { within = omega arith; counted = omega (arith, g .counted); dropped = omega (arith, g .dropped) }
+        record { within = omega arith; counted = omega (arith, g .counted); dropped = omega (arith, g .dropped); few = g .few }
 
     pub tallying-full : (id : ℕ) (rest : List (Item Stretch)) → left ≡ token id ∷ rest → room ≤ n → Tallying own fallback whole rest room n d
     unfolding partStarts partDrops
     tallying-full id rest is h =
         let l : sum (map (partStarts own fallback) left) ≡ 1 + sum (map (partStarts own fallback) rest) = rw is in
         let m : sum (map (partDrops own fallback) left) ≡ 0 + sum (map (partDrops own fallback) rest) = rw is in
-        record { within = g .within; counted = omega (arith, g .counted, g .within); dropped = omega (arith, g .dropped) }
+        record { within = g .within; counted = omega (arith, g .counted, g .within); dropped = omega (arith, g .dropped); few = g .few }
 
     pub tallying-ended : left ≡ [] → _≡_ {A = Symbols} (record { count = n; drops = d }) (partsSymbols own fallback whole room)
     unfolding partsSymbols
     tallying-ended is =
         let l : sum (map (partStarts own fallback) left) ≡ 0 = rw is in
         let m : sum (map (partDrops own fallback) left) ≡ 0 = rw is in
-        ap₂ {C = Symbols} (λ (c : ℕ) (x : ℕ). record { count = c; drops = x }) (let z : n ≡ min (sum (map (partStarts own fallback) whole)) room = omega (arith, g .counted) in z) (let z : d ≡ sum (map (partDrops own fallback) whole) = omega (arith, g .dropped) in z)
-
--- ---- drops are no more than bytes, and one
-
-chars-few : (t : List ℕ) → length (chars t) ≤ length t
-chars-few = by-length (λ (t : List ℕ). length (chars t) ≤ length t) turn
-  where
-    turn : (t : List ℕ) → ((u : List ℕ) → length u < length t → length (chars u) ≤ length u) → length (chars t) ≤ length t
-    turn [] less = omega (arith, ap length chars-nil)
-    turn (b ∷ u) less =
-        let t = b ∷ u in
-        let w = max 1 (charWidth t) in
-        omega (arith, ap length (chars-step t (omega arith)), less (drop w t) (omega (arith, length-drop w t)), length-drop w t)
-
-marked-few : (virtual raw : Bool) (bytes : List ℕ) → length (markedChars virtual raw bytes) ≤ length bytes + 1
-unfolding markedChars unitChars
-marked-few true raw bytes = omega (arith, length-map (chars bytes) (asMark raw), chars-few bytes)
-marked-few false raw bytes = omega (arith, length-map (chars bytes) (asMark raw), chars-few bytes)
-
-pub drops-few : (own : List ℕ → Option ℕ) (fallback bytes : List ℕ) (virtual : Bool) (room : ℕ) → partsSymbols own fallback (stretch bytes virtual true) room .drops ≤ length bytes + 1
-unfolding partsSymbols stretch partDrops
-drops-few own fallback bytes virtual room = go (isEmpty bytes)
-  where
-    all : List (List ℕ)
-    all = markedChars virtual true bytes
-
-    go : (b : Bool) → sum (map (partDrops own fallback) (cond b [] (plain (record { bytes = bytes; virtual = virtual; raw = true }) ∷ []))) ≤ length bytes + 1
-    go true = omega arith
-    go false = omega (arith, count-within (isDroppedBy own fallback) all, marked-few virtual true bytes)
+        ap₂ {C = Symbols} (λ (c : ℕ) (x : ℕ). record { count = c; drops = x }) (let z : n ≡ min (sum (map (partStarts own fallback) whole)) room = omega (arith, g .counted) in z) (let z : d ≡ held (sum (map (partDrops own fallback) whole)) = omega (arith, g .dropped, g .few) in z)
 
 -- ---- the second pass
 
@@ -291,10 +288,6 @@ module _ (prepend : RawPrepend) (continuation : Bool) (text : List ℕ) (start s
   unfolding rawStretch bytesOf
   raw-section = rw is
 
-module _ (own : List ℕ → Option ℕ) (fallback bytes : List ℕ) (virtual : Bool) (room : ℕ) {s : Symbols} (is : s ≡ partsSymbols own fallback (stretch bytes virtual true) room) where
-  pub section-drops : s .drops ≤ length bytes + 1
-  section-drops = omega (arith, ap (λ (s : Symbols). s .drops) is, drops-few own fallback bytes virtual room)
-
-  pub section-most : s .count ≤ room
-  unfolding partsSymbols
-  section-most = let c : s .count ≡ min (sum (map (partStarts own fallback) (stretch bytes virtual true))) room = ap (λ (s : Symbols). s .count) is in omega arith
+pub counted-most : (own : List ℕ → Option ℕ) (fallback : List ℕ) (parts : List (Item Stretch)) (room : ℕ) {s : Symbols} → s ≡ partsSymbols own fallback parts room → s .count ≤ room
+unfolding partsSymbols
+counted-most own fallback parts room {s} is = let c : s .count ≡ min (sum (map (partStarts own fallback) parts)) room = ap (λ (s : Symbols). s .count) is in omega arith

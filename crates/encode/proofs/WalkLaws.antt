@@ -9,8 +9,8 @@ use lib.ListN.{length, length-take, length-drop, take}
 use lib.Seq.{slice}
 use Rattle.model.specs.Model.{TokenList, contents}
 use Rattle.model.specs.Check.{badToken}
-use Rattle.sections.specs.Sections.{Item, token, takenApart, Section, sections}
-use Rattle.sections.specs.inner.Seek.{firstBytes}
+use Rattle.sections.specs.Sections.{Item, token, plain, takenApart, Section, sections}
+use Rattle.sections.specs.Beginnings.{beginnings}
 use Rattle.sections.specs.inner.Walk.{nextItem, sectionsStart}
 use Rattle.sections.specs.declared.Cursor.{Cursor}
 use Rattle.sections.specs.declared.Cursor.the-variants.{Whole, Seek}
@@ -30,21 +30,30 @@ module _ (f : Section → List (Item Stretch)) (t : TokenList) (text : List ℕ)
   unfolding partsLeft
   parts-start = ap (takenApart f) (sections-start t text)
 
-  module _ (first : List ℕ) (sound : first ≡ firstBytes (contents t) (length first)) (fine : badToken (contents t) ≡ false) (cursor : Cursor) {item : Next} (is : item ≡ nextItem t first false text cursor) where
+  module _ (first : List ℕ) (sound : first ≡ beginnings (contents t) (length first)) (fine : badToken (contents t) ≡ false) (cursor : Cursor) {item : Next} (is : item ≡ nextItem t first false text cursor) where
     here : sectionsLeft t text cursor ≡ sectionsGiven t text item
     here = sections-step t first (rw sound (first-sound (contents t) (length first))) fine text cursor ∙ ap (sectionsGiven t text) (sym is)
 
+    pub section-here : {start stop : ℕ} {opening : Bool} {next : Cursor} → item ≡ Plain start stop opening next → sectionsLeft t text cursor ≡ plain (record { start = start; stop = stop; opening = opening }) ∷ sectionsLeft t text next
+    section-here e = here ∙ ap (sectionsGiven t text) e
+
+    pub token-here : {id : ℕ} {next : Cursor} → item ≡ Added id next → sectionsLeft t text cursor ≡ token id ∷ sectionsLeft t text next
+    token-here e = here ∙ ap (sectionsGiven t text) e
+
+    pub none-here : item ≡ Finished → sectionsLeft t text cursor ≡ []
+    none-here e = here ∙ ap (sectionsGiven t text) e
+
     pub plain-next : {start stop : ℕ} {opening : Bool} {next : Cursor} → item ≡ Plain start stop opening next → partsLeft cursor ≡ f (record { start = start; stop = stop; opening = opening }) ++ partsLeft next
     unfolding partsLeft
-    plain-next e = ap (takenApart f) (here ∙ ap (sectionsGiven t text) e)
+    plain-next e = ap (takenApart f) (section-here e)
 
     pub token-next : {id : ℕ} {next : Cursor} → item ≡ Added id next → partsLeft cursor ≡ token id ∷ partsLeft next
     unfolding partsLeft
-    token-next e = ap (takenApart f) (here ∙ ap (sectionsGiven t text) e)
+    token-next e = ap (takenApart f) (token-here e)
 
     pub finished : item ≡ Finished → partsLeft cursor ≡ []
     unfolding partsLeft
-    finished e = ap (takenApart f) (here ∙ ap (sectionsGiven t text) e)
+    finished e = ap (takenApart f) (none-here e)
 
 module _ (t : TokenList) (first text : List ℕ) (cursor : Cursor) {item : Next} (is : item ≡ nextItem t first false text cursor) where
   pub plain-fewer : {start stop : ℕ} {opening : Bool} {next : Cursor} → item ≡ Plain start stop opening next → stepsLeft next < stepsLeft cursor
@@ -52,15 +61,3 @@ module _ (t : TokenList) (first text : List ℕ) (cursor : Cursor) {item : Next}
 
   pub token-fewer : {id : ℕ} {next : Cursor} → item ≡ Added id next → stepsLeft next < stepsLeft cursor
   token-fewer e = omega (arith, fewer-steps t first false text cursor, ap stepsGiven (sym is), ap stepsGiven e)
-
--- A text has no more parts than this.
-pub steps-start : (offsets text : List ℕ) → stepsLeft (sectionsStart offsets text) ≤ 2 * length text + 1
-unfolding sectionsStart
-steps-start offsets text = go (eqb (length offsets - 1) 0)
-  where
-    go : (b : Bool) → stepsLeft (cond b Whole (Seek 0 0 (length text) true)) ≤ 2 * length text + 1
-    go true = omega arith
-    go false = omega arith
-
-pub section-long : (a b : ℕ) (text : List ℕ) → length (slice a b text) ≤ length text
-section-long a b text = omega (arith, length-drop a (take b text), length-take b text)

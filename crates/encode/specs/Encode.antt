@@ -68,6 +68,10 @@ unfoldable pub encodeOutputs : Model → RawPath → List ℕ → List (List ℕ
 encodeOutputs m (Present prepend) text = []
 encodeOutputs m Absent text = joinMap (sectionOutputs m text) (sections (m .first) text)
 
+-- A count as an answer holds it: its fields end at 2^64 - 1 (rule 3.6).
+abbrev pub held : ℕ → ℕ
+held count = min count 18446744073709551615
+
 -- out is the result buffer's length, room that of the shorter scratch buffer.
 unfoldable pub encodeNumber : Model → Bool → List ℕ → ℕ → ℕ → ℕ
 encodeNumber m continuation text out room =
@@ -83,4 +87,4 @@ unfoldable pub encodeOutcome : Model → List ℕ → Bool → List ℕ → List
 encodeOutcome m text continuation out a b =
     let number = encodeNumber m continuation text (length out) (min (length a) (length b)) in
     let ids = encodedIds m continuation text in
-    withScratch number (outcome number (placeOf number text) (done (length ids) (drops m continuation text) 0) ids out) a b
+    withScratch number (outcome number (placeOf number text) (done (length ids) (held (drops m continuation text)) 0) ids out) a b

@@ -1,7 +1,9 @@
 // Text to ids.
 mod finish;
+mod held;
 mod marks;
 mod normal;
+mod parts;
 mod raw;
 mod section;
 mod stretch;

@@ -1,5 +1,6 @@
 // The two passes on the raw path, where the sections of a text are its stretches.
 use crate::finish::clear_from;
+use crate::held::add_held;
 use crate::section::count_section;
 use crate::section::encode_section;
 use crate::section::put_id;
@@ -8,7 +9,6 @@ use model::Answer;
 use model::RESULT_TOO_SHORT;
 use model::tables::part;
 use sections::Next;
-use sections::first::first_bytes;
 use sections::walk::next_item;
 use sections::walk::sections_start;
 use units::RawPrepend;
@@ -22,7 +22,7 @@ ghost use Rattle.model.specs.Model.{contents, tokenList};
 ghost use Rattle.merge.specs.inner.Turns.{Merged};
 ghost use Rattle.prepare.specs.Layout.{indexLength};
 ghost use Rattle.sections.specs.Sections.{takenApart, sections};
-ghost use Rattle.sections.specs.inner.Seek.{firstBytes};
+ghost use Rattle.sections.specs.Beginnings.{beginnings};
 ghost use Rattle.encode.specs.Parts.{rawStretch};
 ghost use Rattle.encode.specs.inner.Tables.{ownIn};
 ghost use Rattle.encode.specs.inner.Passes.{partsSymbols, partsWriter, partsOutcome};
@@ -39,16 +39,15 @@ pub fn count_raw(
     ids: &[u32],
     lstrip: &[bool],
     rstrip: &[bool],
-    first: &[u32],
+    begins: &[u32],
     prepend: RawPrepend,
     continuation: bool,
     text: &[u8],
     room: usize,
 ) -> Symbols
     requires { ⌜ indexLength ≤ length (now index) ⌝ }
-    requires { ⌜ now first ≡ firstBytes (contents (tokenList (now bytes) (now offsets) (now ids) (now lstrip) (now rstrip))) (length (now first)) ⌝ }
+    requires { ⌜ now begins ≡ beginnings (contents (tokenList (now bytes) (now offsets) (now ids) (now lstrip) (now rstrip))) (length (now begins)) ⌝ }
     requires { ⌜ badToken (contents (tokenList (now bytes) (now offsets) (now ids) (now lstrip) (now rstrip))) ≡ false ⌝ }
-    requires { ⌜ length (now text) ≤ 1048576 ⌝ }
     ensures { λ r. ⌜ r ≡ partsSymbols (ownIn (now (index .entry)) (now («piece_bytes» .entry)) (now («piece_offsets» .entry)) (now (lookup .entry))) (now (fallback .entry)) (takenApart (rawStretch prepend continuation (now (text .entry))) (sections (tokenList (now (bytes .entry)) (now (offsets .entry)) (now (ids .entry)) (now (lstrip .entry)) (now (rstrip .entry))) (now (text .entry)))) room ⌝ }
 {
     let mut cursor = sections_start(offsets, text);
@@ -61,7 +60,7 @@ pub fn count_raw(
             ids,
             lstrip,
             rstrip,
-            first,
+            begins,
             false,
             text,
             cursor,
@@ -100,7 +99,7 @@ pub fn count_raw(
                     room - count,
                 );
                 count += given.count;
-                drops += given.drops;
+                drops = add_held(drops, given.drops);
                 cursor = next;
             }
         }
@@ -124,14 +123,14 @@ pub fn write_raw(
     ids: &[u32],
     lstrip: &[bool],
     rstrip: &[bool],
-    first: &[u32],
+    begins: &[u32],
     prepend: RawPrepend,
     continuation: bool,
     text: &[u8],
     out: &mut [u32],
 ) -> usize
     requires { ⌜ indexLength ≤ length (now index) ⌝ }
-    requires { ⌜ now first ≡ firstBytes (contents (tokenList (now bytes) (now offsets) (now ids) (now lstrip) (now rstrip))) (length (now first)) ⌝ }
+    requires { ⌜ now begins ≡ beginnings (contents (tokenList (now bytes) (now offsets) (now ids) (now lstrip) (now rstrip))) (length (now begins)) ⌝ }
     requires { ⌜ badToken (contents (tokenList (now bytes) (now offsets) (now ids) (now lstrip) (now rstrip))) ≡ false ⌝ }
     ensures { λ n. ⌜ _≡_ {A = Merged} (record { count = n; ids = now (out .exit) }) (partsWriter (record { adjacency = now (adjacency .entry); index = now (index .entry); pieceBytes = now («piece_bytes» .entry); pieceOffsets = now («piece_offsets» .entry); lookup = now (lookup .entry); fallback = now (fallback .entry); left = now (left .entry); right = now (right .entry); result = now (result .entry); rank = now (rank .entry) }) (takenApart (rawStretch prepend continuation (now (text .entry))) (sections (tokenList (now (bytes .entry)) (now (offsets .entry)) (now (ids .entry)) (now (lstrip .entry)) (now (rstrip .entry))) (now (text .entry)))) (now (out .entry))) ⌝ }
 {
@@ -144,7 +143,7 @@ pub fn write_raw(
             ids,
             lstrip,
             rstrip,
-            first,
+            begins,
             false,
             text,
             cursor,
@@ -205,18 +204,17 @@ pub fn encode_raw(
     ids: &[u32],
     lstrip: &[bool],
     rstrip: &[bool],
+    begins: &[u32],
     prepend: RawPrepend,
     continuation: bool,
     text: &[u8],
     out: &mut [u32],
 ) -> Answer
     requires { ⌜ indexLength ≤ length (now index) ⌝ }
+    requires { ⌜ now begins ≡ beginnings (contents (tokenList (now bytes) (now offsets) (now ids) (now lstrip) (now rstrip))) (length (now begins)) ⌝ }
     requires { ⌜ badToken (contents (tokenList (now bytes) (now offsets) (now ids) (now lstrip) (now rstrip))) ≡ false ⌝ }
-    requires { ⌜ length (now text) ≤ 1048576 ⌝ }
     ensures { λ r. ⌜ _≡_ {A = Outcome} (record { answer = r; out = now (out .exit) }) (partsOutcome (record { adjacency = now (adjacency .entry); index = now (index .entry); pieceBytes = now («piece_bytes» .entry); pieceOffsets = now («piece_offsets» .entry); lookup = now (lookup .entry); fallback = now (fallback .entry); left = now (left .entry); right = now (right .entry); result = now (result .entry); rank = now (rank .entry) }) (takenApart (rawStretch prepend continuation (now (text .entry))) (sections (tokenList (now (bytes .entry)) (now (offsets .entry)) (now (ids .entry)) (now (lstrip .entry)) (now (rstrip .entry))) (now (text .entry)))) (now (out .entry))) ⌝ }
 {
-    let mut first = [0u32; 256];
-    first_bytes(bytes, offsets, &mut first);
     let counted = count_raw(
         index,
         piece_bytes,
@@ -228,7 +226,7 @@ pub fn encode_raw(
         ids,
         lstrip,
         rstrip,
-        &first,
+        begins,
         prepend,
         continuation,
         text,
@@ -253,7 +251,7 @@ pub fn encode_raw(
         ids,
         lstrip,
         rstrip,
-        &first,
+        begins,
         prepend,
         continuation,
         text,

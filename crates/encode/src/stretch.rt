@@ -115,7 +115,7 @@ fn encode_by_rows(
     let shift = number_at(index, prepare::SHIFT_AT);
     let noted = &index[prepare::CROSSINGS_AT..prepare::MARK_ID_AT];
     let first_bytes = &index[prepare::FIRST_BYTES_AT..prepare::BUCKETS_AT];
-    let buckets = &index[prepare::BUCKETS_AT..prepare::INDEX_LEN];
+    let buckets = &index[prepare::BUCKETS_AT..prepare::FIRST_TOKENS_AT];
     encode_units(
         kind,
         noted,

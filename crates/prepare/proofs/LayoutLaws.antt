@@ -1,13 +1,16 @@
--- Laws of the index: how long it is, that its parts written one after the other make it, and what is read from it.
-use mathlib.Core.Path.{_≡_, refl, sym, _∙_}
-use mathlib.Core.List.{List, [], _∷_, _++_, append-nil}
+-- Laws of the index: how long it is, and that its parts written one after the other make it.
+use mathlib.Core.Path.{_≡_, refl, sym, ap, ap₂, _∙_}
+use mathlib.Core.List.{List, [], _∷_, _++_, append-nil, append-assoc}
 use Prim.Native.Nat.{ℕ, _+_, _-_, _≤_}
 use native.Mathlib.Omega.{arith}
-use lib.ListN.{length, take, drop, set, length-append}
+use lib.ListN.{length, take, drop, set, length-append, length-drop, take-append-drop}
+use lib.Seq.{take-at, drop-at, drop-drop, drop-append-add, length-take-le}
 use Rattle.utf8.proofs.Fronts.{length-row}
 use Rattle.utf8.proofs.Writing.{Written, written-start, written-byte, written-part, written-length, written-ended}
 use Rattle.index.specs.Index.{firstByteStart, firstBytes, markId, bucketShift, bucketStart, buckets}
-use Rattle.prepare.specs.Layout.{indexRow}
+use Rattle.sections.specs.Beginnings.{beginnings, longestContent}
+use Rattle.sections.proofs.SeekLaws.{length-beginnings}
+use Rattle.prepare.specs.Layout.{pieceWords, tokenWords, indexRow}
 
 pub length-firstBytes : (pieces : List (List ℕ)) (lookup : List ℕ) → length (firstBytes pieces lookup) ≡ 257
 unfolding firstBytes
@@ -17,9 +20,11 @@ pub length-buckets : (left : List ℕ) (shift : ℕ) → length (buckets left sh
 unfolding buckets
 length-buckets left shift = length-row (bucketStart left shift) 4097
 
+-- ---- what is derived of pieces and rows
+
 module _ (kind raw count : ℕ) (noted : List ℕ) (pieces : List (List ℕ)) (lookup left : List ℕ) (all-noted : length noted ≡ 64) where
   abbrev row : List ℕ
-  row = indexRow kind raw count noted pieces lookup left
+  row = pieceWords kind raw count noted pieces lookup left
 
   abbrev shift : ℕ
   shift = bucketShift (length pieces)
@@ -27,9 +32,9 @@ module _ (kind raw count : ℕ) (noted : List ℕ) (pieces : List (List ℕ)) (l
   abbrev starts : List ℕ
   starts = firstBytes pieces lookup ++ buckets left shift
 
-  pub length-index : length row ≡ 4423
-  unfolding indexRow
-  length-index =
+  pub length-pieceWords : length row ≡ 4423
+  unfolding pieceWords
+  length-pieceWords =
       omega
       (arith, length-append noted (markId pieces lookup ∷ shift ∷ starts), length-append (firstBytes pieces lookup) (buckets left shift), length-firstBytes pieces lookup, length-buckets left shift)
 
@@ -37,13 +42,13 @@ module _ (kind raw count : ℕ) (noted : List ℕ) (pieces : List (List ℕ)) (l
 
   module _ (before : List ℕ) (room : 4423 ≤ length before) where
     fits : length row ≤ length before
-    fits = omega (arith, length-index)
+    fits = omega (arith, length-pieceWords)
 
     abbrev heads : List ℕ
     heads = set (set (set before 0 kind) 1 raw) 2 count
 
     heads-written : Written row (noted ++ (markId pieces lookup ∷ shift ∷ starts)) before heads 3
-    unfolding indexRow
+    unfolding pieceWords
     heads-written =
         written-byte fits
         (written-byte fits (written-byte fits (written-start row before) (record { is = refl })) (record { is = refl }))
@@ -87,5 +92,91 @@ module _ (kind raw count : ℕ) (noted : List ℕ) (pieces : List (List ℕ)) (l
             pub last-long : length last ≡ length before
             last-long = written-length fits last-written
 
-            pub index-filled : last ≡ row ++ drop 4423 before
-            index-filled = written-ended fits last-written refl ∙ rw length-index
+            pub pieces-filled : last ≡ row ++ drop 4423 before
+            pieces-filled = written-ended fits last-written refl ∙ rw length-pieceWords
+
+-- ---- what is derived of the token lists
+
+-- A part of a buffer that was lent, and came back as a row of its own length.
+pub lent-back : (a k e : ℕ) (xs ys : List ℕ) (row : ℕ → List ℕ) → a + k ≡ e → e ≤ length xs → ys ≡ row (length (take k (drop a xs)))
+    → take a xs ++ (ys ++ drop k (drop a xs)) ≡ take a xs ++ row k ++ drop e xs
+lent-back a k e xs ys row s h r =
+    let long : length (take k (drop a xs)) ≡ k = length-take-le k (drop a xs) (omega (arith, length-drop a xs)) in
+    sym (append-assoc (take a xs) ys (drop k (drop a xs)))
+    ∙ ap₂ (λ (y z : List ℕ). take a xs ++ y ++ z) (r ∙ ap row long) (drop-drop k a xs ∙ ap (λ (n : ℕ). drop n xs) s)
+
+module _ (first second : List (List ℕ)) where
+  pub length-tokenWords : length (tokenWords first second) ≡ 513
+  unfolding tokenWords
+  length-tokenWords =
+      omega
+      (arith, length-append (beginnings first 256) (beginnings second 256 ++ (longestContent first ∷ [])), length-append (beginnings second 256) (longestContent first ∷ []), length-beginnings first 256, length-beginnings second 256)
+
+  module _ (before : List ℕ) (room : 4936 ≤ length before) where
+    abbrev output : List ℕ
+    output = take 4423 before ++ tokenWords first second
+
+    front-long : length (take 4423 before) ≡ 4423
+    front-long = length-take-le 4423 before (omega arith)
+
+    length-output : length output ≡ 4936
+    length-output = omega (arith, length-append (take 4423 before) (tokenWords first second), front-long, length-tokenWords)
+
+    token-room : length output ≤ length before
+    token-room = omega (arith, length-output)
+
+    tokens-start : Written output (tokenWords first second) before before 4423
+    tokens-start = record {
+      within = omega (arith, length-output);
+      left = drop-at (take 4423 before) (tokenWords first second) 4423 front-long;
+      front = sym (ap (λ (l : List ℕ). l ++ drop 4423 before) (take-at (take 4423 before) (tokenWords first second) 4423 front-long) ∙ take-append-drop 4423 before);
+    }
+
+    module _ (one : List ℕ) (e : one ≡ take 4423 before ++ beginnings first 256 ++ drop 4679 before) where
+      one-written : Written output (beginnings second 256 ++ (longestContent first ∷ [])) before one 4679
+      unfolding tokenWords
+      one-written =
+          let long = length-beginnings first 256 in
+          let at : 4423 + length (beginnings first 256) ≡ 4679 = omega arith in
+          let step = written-part token-room tokens-start {part = beginnings first 256} {rest = beginnings second 256 ++ (longestContent first ∷ [])} (record { is = refl }) in
+          rw (e, ← at) step
+
+      pub one-long : length one ≡ length before
+      one-long = written-length token-room one-written
+
+      module _ (two : List ℕ) (f : two ≡ take 4679 one ++ beginnings second 256 ++ drop 4935 one) where
+        two-written : Written output (longestContent first ∷ []) before two 4935
+        two-written =
+            let long = length-beginnings second 256 in
+            let at : 4679 + length (beginnings second 256) ≡ 4935 = omega arith in
+            let step = written-part token-room one-written {part = beginnings second 256} {rest = longestContent first ∷ []} (record { is = refl }) in
+            rw (f, ← at) step
+
+        pub two-long : length two ≡ length before
+        two-long = written-length token-room two-written
+
+        pub tokens-filled : (longest : ℕ) → longest ≡ longestContent first → set two 4935 longest ≡ take 4423 before ++ tokenWords first second ++ drop 4936 before
+        tokens-filled longest g =
+            ap (set two 4935) g
+            ∙ written-ended token-room (written-byte token-room two-written {rest = []} (record { is = refl })) refl
+            ∙ ap (λ (n : ℕ). output ++ drop n before) length-output
+
+-- ---- both
+
+module _ (kind raw count : ℕ) (noted : List ℕ) (pieces : List (List ℕ)) (lookup left : List ℕ) (first second : List (List ℕ)) (all-noted : length noted ≡ 64) where
+  abbrev front : List ℕ
+  front = pieceWords kind raw count noted pieces lookup left
+
+  front-4423 : length front ≡ 4423
+  front-4423 = length-pieceWords kind raw count noted pieces lookup left all-noted
+
+  pub length-index : length (indexRow kind raw count noted pieces lookup left first second) ≡ 4936
+  unfolding indexRow
+  length-index = omega (arith, length-append front (tokenWords first second), front-4423, length-tokenWords first second)
+
+  pub index-filled : (before written last : List ℕ) → written ≡ front ++ drop 4423 before → last ≡ take 4423 written ++ tokenWords first second ++ drop 4936 written
+      → last ≡ indexRow kind raw count noted pieces lookup left first second ++ drop 4936 before
+  unfolding indexRow
+  index-filled before written last e f =
+      let behind : drop 4936 (front ++ drop 4423 before) ≡ drop 4936 before = ap (λ (n : ℕ). drop (n + 513) (front ++ drop 4423 before)) (sym front-4423) ∙ drop-append-add front (drop 4423 before) 513 ∙ drop-drop 513 4423 before in
+      f ∙ rw (e, take-at front (drop 4423 before) 4423 front-4423, behind)

@@ -1,12 +1,14 @@
 -- What is read from the index of a model.
 use mathlib.Core.Path.{_≡_, refl, sym, ap, _∙_}
 use mathlib.Core.List.{List, _∷_, _++_, [], append-assoc, append-nil}
-use Prim.Native.Nat.{ℕ, _+_}
+use Prim.Native.Nat.{ℕ, _+_, _≤_, _<_}
 use native.Mathlib.Omega.{arith}
-use lib.ListN.{length, getD, length-append}
-use lib.Seq.{slice, take-append-add, take-append-seam, drop-append-seam, getD-at}
-use Rattle.model.specs.Model.{Model, piecesOf}
+use lib.ListN.{length, getD, drop, length-append, List·getD-append}
+use lib.Seq.{slice, take-append-le, take-append-add, take-append-seam, drop-append-seam, getD-at}
+use Rattle.model.specs.Model.{Model, contents, piecesOf}
 use Rattle.index.specs.Index.{firstBytes, markId, bucketShift, buckets}
+use Rattle.sections.specs.Beginnings.{beginnings, longestContent}
+use Rattle.sections.proofs.SeekLaws.{length-beginnings}
 use Rattle.units.specs.Kinds.{kindOf, rawPath}
 use Rattle.units.specs.Derived.{noting}
 use Rattle.units.specs.declared.WordSplit.{WordSplit}
@@ -14,10 +16,10 @@ use Rattle.units.specs.declared.WordSplit.the-variants.{SpaceRuns, EveryMark, N
 use Rattle.units.specs.declared.RawPrepend.the-variants as prepend
 use Rattle.units.specs.declared.RawPath.{RawPath}
 use Rattle.units.specs.declared.RawPath.the-variants.{Absent, Present}
-use Rattle.prepare.specs.Layout.{indexRow, kindAt, rawPathAt, crossingCountAt, crossingsAt, markIdAt, shiftAt, firstBytesAt, bucketsAt, indexLength}
+use Rattle.prepare.specs.Layout.{kindAt, rawPathAt, crossingCountAt, crossingsAt, markIdAt, shiftAt, firstBytesAt, bucketsAt, firstTokensAt, secondTokensAt, longestContentAt, indexLength, pieceWords, tokenWords, indexRow}
 use Rattle.prepare.specs.Numbers.{kindNumber, kindFrom, rawPathNumber, rawPathFrom}
 use Rattle.prepare.specs.Prepare.{derivedIndex}
-use Rattle.prepare.proofs.LayoutLaws.{length-firstBytes, length-buckets, length-index}
+use Rattle.prepare.proofs.LayoutLaws.{length-firstBytes, length-buckets, length-pieceWords, length-index}
 use Rattle.prepare.proofs.PrepareLaws.{noted-long}
 
 -- A number gives back what it stands for.
@@ -40,9 +42,13 @@ part-between : (front part rest : List ℕ) (from to : ℕ) → length front ≡
 part-between front part rest from to e f =
     rw (← f, ← e, take-append-add, take-append-seam) (drop-append-seam front part)
 
+-- What is read of the front of a list, whatever stands behind it.
+front-part : (front rest : List ℕ) (from to : ℕ) → to ≤ length front → slice from to (front ++ rest) ≡ slice from to front
+front-part front rest from to h = ap (drop from) (take-append-le to front rest h)
+
 module _ (kind raw count : ℕ) (noted : List ℕ) (pieces : List (List ℕ)) (lookup left : List ℕ) (all-noted : length noted ≡ 64) where
   abbrev row : List ℕ
-  row = indexRow kind raw count noted pieces lookup left
+  row = pieceWords kind raw count noted pieces lookup left
 
   abbrev shift : ℕ
   shift = bucketShift (length pieces)
@@ -54,28 +60,28 @@ module _ (kind raw count : ℕ) (noted : List ℕ) (pieces : List (List ℕ)) (l
   starts = firstBytes pieces lookup ++ buckets left shift
 
   pub noted-read : slice crossingsAt markIdAt row ≡ noted
-  unfolding indexRow
+  unfolding pieceWords
   noted-read = part-between heads noted (markId pieces lookup ∷ shift ∷ starts) 3 67 refl (omega arith)
 
   before-mark : length (heads ++ noted) ≡ 67
   before-mark = omega (arith, length-append heads noted)
 
   pub mark-read : getD row markIdAt 0 ≡ markId pieces lookup
-  unfolding indexRow
+  unfolding pieceWords
   mark-read = getD-at (heads ++ noted) (markId pieces lookup) (shift ∷ starts) 0 67 before-mark
 
   abbrev before-starts : List ℕ
   before-starts = (heads ++ noted) ++ (markId pieces lookup ∷ shift ∷ [])
 
   row-is : row ≡ before-starts ++ starts
-  unfolding indexRow
+  unfolding pieceWords
   row-is = sym (append-assoc (heads ++ noted) (markId pieces lookup ∷ shift ∷ []) starts)
 
   long : length before-starts ≡ 69
   long = omega (arith, length-append (heads ++ noted) (markId pieces lookup ∷ shift ∷ []), before-mark)
 
   pub shift-read : getD row shiftAt 0 ≡ shift
-  unfolding indexRow
+  unfolding pieceWords
   shift-read =
       ap (λ (l : List ℕ). getD l 68 0) (sym (append-assoc (heads ++ noted) (markId pieces lookup ∷ []) (shift ∷ starts)))
       ∙ getD-at ((heads ++ noted) ++ (markId pieces lookup ∷ [])) shift starts 0 68 (omega (arith, length-append (heads ++ noted) (markId pieces lookup ∷ []), before-mark))
@@ -85,50 +91,101 @@ module _ (kind raw count : ℕ) (noted : List ℕ) (pieces : List (List ℕ)) (l
       ap (slice 69 326) row-is
       ∙ part-between before-starts (firstBytes pieces lookup) (buckets left shift) 69 326 long (omega (arith, length-firstBytes pieces lookup))
 
-  pub buckets-read : slice bucketsAt indexLength row ≡ buckets left shift
+  pub buckets-read : slice bucketsAt firstTokensAt row ≡ buckets left shift
   buckets-read =
       ap (slice 326 4423) (row-is ∙ sym (append-assoc before-starts (firstBytes pieces lookup) (buckets left shift)) ∙ ap (λ (l : List ℕ). (before-starts ++ firstBytes pieces lookup) ++ l) (sym (append-nil (buckets left shift))))
       ∙ part-between (before-starts ++ firstBytes pieces lookup) (buckets left shift) [] 326 4423 (omega (arith, length-append before-starts (firstBytes pieces lookup), long, length-firstBytes pieces lookup)) (omega (arith, length-buckets left shift))
 
+-- The words of the token lists stand behind those of the pieces.
+module _ (front : List ℕ) (first second : List (List ℕ)) (front-long : length front ≡ 4423) where
+  abbrev firsts : List ℕ
+  firsts = beginnings first 256
+
+  abbrev seconds : List ℕ
+  seconds = beginnings second 256
+
+  pub first-tokens-read : slice firstTokensAt secondTokensAt (front ++ tokenWords first second) ≡ firsts
+  unfolding tokenWords
+  first-tokens-read = part-between front firsts (seconds ++ (longestContent first ∷ [])) 4423 4679 front-long (omega (arith, length-beginnings first 256))
+
+  to-second : length (front ++ firsts) ≡ 4679
+  to-second = omega (arith, length-append front firsts, length-beginnings first 256)
+
+  pub second-tokens-read : slice secondTokensAt longestContentAt (front ++ tokenWords first second) ≡ seconds
+  unfolding tokenWords
+  second-tokens-read =
+      ap (slice 4679 4935) (sym (append-assoc front firsts (seconds ++ (longestContent first ∷ []))))
+      ∙ part-between (front ++ firsts) seconds (longestContent first ∷ []) 4679 4935 to-second (omega (arith, length-beginnings second 256))
+
+  pub longest-read : getD (front ++ tokenWords first second) longestContentAt 0 ≡ longestContent first
+  unfolding tokenWords
+  longest-read =
+      ap (λ (l : List ℕ). getD l 4935 0) (sym (append-assoc front firsts (seconds ++ (longestContent first ∷ []))) ∙ sym (append-assoc (front ++ firsts) seconds (longestContent first ∷ [])))
+      ∙ getD-at ((front ++ firsts) ++ seconds) (longestContent first) [] 0 4935 (omega (arith, length-append (front ++ firsts) seconds, to-second, length-beginnings second 256))
+
 -- The kind and the raw path of a model, from the index's first words.
 module _ (m : Model) where
   pub kind-read : kindFrom (getD (derivedIndex m) kindAt 0) ≡ kindOf m
-  unfolding derivedIndex indexRow
+  unfolding derivedIndex indexRow pieceWords
   kind-read = kind-back (kindOf m)
 
   pub raw-path-read : rawPathFrom (getD (derivedIndex m) rawPathAt 0) ≡ rawPath m
-  unfolding derivedIndex indexRow
+  unfolding derivedIndex indexRow pieceWords
   raw-path-read = raw-path-back (rawPath m)
 
   pub count-read : getD (derivedIndex m) crossingCountAt 0 ≡ noting (piecesOf m) (kindOf m) .count
-  unfolding derivedIndex indexRow
+  unfolding derivedIndex indexRow pieceWords
   count-read = refl
 
   all-64 : length (noting (piecesOf m) (kindOf m) .noted) ≡ 64
   unfolding kindOf
   all-64 = noted-long (piecesOf m) (m .metaspace)
 
+  -- Its words of the pieces, and behind them those of the tokens.
+  abbrev front : List ℕ
+  front = pieceWords (kindNumber (kindOf m)) (rawPathNumber (rawPath m)) (noting (piecesOf m) (kindOf m) .count) (noting (piecesOf m) (kindOf m) .noted) (piecesOf m) (m .lookup) (m .left)
+
+  abbrev tokens : List ℕ
+  tokens = tokenWords (contents (m .first)) (contents (m .second))
+
+  index-is : derivedIndex m ≡ front ++ tokens
+  unfolding derivedIndex indexRow
+  index-is = refl
+
+  front-long : length front ≡ 4423
+  front-long = length-pieceWords (kindNumber (kindOf m)) (rawPathNumber (rawPath m)) (noting (piecesOf m) (kindOf m) .count) (noting (piecesOf m) (kindOf m) .noted) (piecesOf m) (m .lookup) (m .left) all-64
+
+  part-of-front : (from to : ℕ) → to ≤ 4423 → slice from to (derivedIndex m) ≡ slice from to front
+  part-of-front from to h = ap (slice from to) index-is ∙ front-part front tokens from to (omega (arith, front-long))
+
+  word-of-front : (at : ℕ) → at < 4423 → getD (derivedIndex m) at 0 ≡ getD front at 0
+  word-of-front at h = ap (λ (l : List ℕ). getD l at 0) index-is ∙ List·getD-append front tokens 0 at (omega (arith, front-long))
+
   -- The other parts of its index.
   pub crossings-at : slice crossingsAt markIdAt (derivedIndex m) ≡ noting (piecesOf m) (kindOf m) .noted
-  unfolding derivedIndex
-  crossings-at = noted-read (kindNumber (kindOf m)) (rawPathNumber (rawPath m)) (noting (piecesOf m) (kindOf m) .count) (noting (piecesOf m) (kindOf m) .noted) (piecesOf m) (m .lookup) (m .left) all-64
+  crossings-at = part-of-front 3 67 (omega arith) ∙ noted-read (kindNumber (kindOf m)) (rawPathNumber (rawPath m)) (noting (piecesOf m) (kindOf m) .count) (noting (piecesOf m) (kindOf m) .noted) (piecesOf m) (m .lookup) (m .left) all-64
 
   pub mark-at : getD (derivedIndex m) markIdAt 0 ≡ markId (piecesOf m) (m .lookup)
-  unfolding derivedIndex
-  mark-at = mark-read (kindNumber (kindOf m)) (rawPathNumber (rawPath m)) (noting (piecesOf m) (kindOf m) .count) (noting (piecesOf m) (kindOf m) .noted) (piecesOf m) (m .lookup) (m .left) all-64
+  mark-at = word-of-front 67 (omega arith) ∙ mark-read (kindNumber (kindOf m)) (rawPathNumber (rawPath m)) (noting (piecesOf m) (kindOf m) .count) (noting (piecesOf m) (kindOf m) .noted) (piecesOf m) (m .lookup) (m .left) all-64
 
   pub shift-at : getD (derivedIndex m) shiftAt 0 ≡ bucketShift (length (piecesOf m))
-  unfolding derivedIndex
-  shift-at = shift-read (kindNumber (kindOf m)) (rawPathNumber (rawPath m)) (noting (piecesOf m) (kindOf m) .count) (noting (piecesOf m) (kindOf m) .noted) (piecesOf m) (m .lookup) (m .left) all-64
+  shift-at = word-of-front 68 (omega arith) ∙ shift-read (kindNumber (kindOf m)) (rawPathNumber (rawPath m)) (noting (piecesOf m) (kindOf m) .count) (noting (piecesOf m) (kindOf m) .noted) (piecesOf m) (m .lookup) (m .left) all-64
 
   pub first-bytes-at : slice firstBytesAt bucketsAt (derivedIndex m) ≡ firstBytes (piecesOf m) (m .lookup)
-  unfolding derivedIndex
-  first-bytes-at = first-bytes-read (kindNumber (kindOf m)) (rawPathNumber (rawPath m)) (noting (piecesOf m) (kindOf m) .count) (noting (piecesOf m) (kindOf m) .noted) (piecesOf m) (m .lookup) (m .left) all-64
+  first-bytes-at = part-of-front 69 326 (omega arith) ∙ first-bytes-read (kindNumber (kindOf m)) (rawPathNumber (rawPath m)) (noting (piecesOf m) (kindOf m) .count) (noting (piecesOf m) (kindOf m) .noted) (piecesOf m) (m .lookup) (m .left) all-64
 
-  pub buckets-at : slice bucketsAt indexLength (derivedIndex m) ≡ buckets (m .left) (bucketShift (length (piecesOf m)))
-  unfolding derivedIndex
-  buckets-at = buckets-read (kindNumber (kindOf m)) (rawPathNumber (rawPath m)) (noting (piecesOf m) (kindOf m) .count) (noting (piecesOf m) (kindOf m) .noted) (piecesOf m) (m .lookup) (m .left) all-64
+  pub buckets-at : slice bucketsAt firstTokensAt (derivedIndex m) ≡ buckets (m .left) (bucketShift (length (piecesOf m)))
+  buckets-at = part-of-front 326 4423 (omega arith) ∙ buckets-read (kindNumber (kindOf m)) (rawPathNumber (rawPath m)) (noting (piecesOf m) (kindOf m) .count) (noting (piecesOf m) (kindOf m) .noted) (piecesOf m) (m .lookup) (m .left) all-64
+
+  pub first-tokens-at : slice firstTokensAt secondTokensAt (derivedIndex m) ≡ beginnings (contents (m .first)) 256
+  first-tokens-at = ap (slice 4423 4679) index-is ∙ first-tokens-read front (contents (m .first)) (contents (m .second)) front-long
+
+  pub second-tokens-at : slice secondTokensAt longestContentAt (derivedIndex m) ≡ beginnings (contents (m .second)) 256
+  second-tokens-at = ap (slice 4679 4935) index-is ∙ second-tokens-read front (contents (m .first)) (contents (m .second)) front-long
+
+  pub longest-at : getD (derivedIndex m) longestContentAt 0 ≡ longestContent (contents (m .first))
+  longest-at = ap (λ (l : List ℕ). getD l 4935 0) index-is ∙ longest-read front (contents (m .first)) (contents (m .second)) front-long
 
   pub index-long : length (derivedIndex m) ≡ indexLength
   unfolding derivedIndex
-  index-long = length-index (kindNumber (kindOf m)) (rawPathNumber (rawPath m)) (noting (piecesOf m) (kindOf m) .count) (noting (piecesOf m) (kindOf m) .noted) (piecesOf m) (m .lookup) (m .left) all-64
+  index-long = length-index (kindNumber (kindOf m)) (rawPathNumber (rawPath m)) (noting (piecesOf m) (kindOf m) .count) (noting (piecesOf m) (kindOf m) .noted) (piecesOf m) (m .lookup) (m .left) (contents (m .first)) (contents (m .second)) all-64

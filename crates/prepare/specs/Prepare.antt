@@ -4,7 +4,7 @@ use mathlib.Core.Bool.{cond, _||_}
 use mathlib.Core.List.{List, [], _∷_, _++_}
 use lib.Dec.{eqb, ltb}
 use lib.ListN.{length}
-use Rattle.model.specs.Model.{Model, piecesOf}
+use Rattle.model.specs.Model.{Model, contents, piecesOf}
 use Rattle.model.specs.Answers.{lowest, done, refused, filled}
 use Rattle.model.specs.Check.{modelTests}
 use Rattle.model.specs.declared.Answer.{Answer}
@@ -22,6 +22,7 @@ unfoldable pub derivedIndex : Model → List ℕ
 derivedIndex m =
     let noted = noting (piecesOf m) (kindOf m) in
     indexRow (kindNumber (kindOf m)) (rawPathNumber (rawPath m)) (noted .count) (noted .noted) (piecesOf m) (m .lookup) (m .left)
+    (contents (m .first)) (contents (m .second))
 
 -- What prepare leaves: the answer and the two rows.
 pub record PrepareOutcome : Type 0 where

@@ -12,8 +12,7 @@ use units::crossings::word_split;
 use units::raw::raw_path;
 ghost use mathlib.Core.Path.{_≡_};
 ghost use mathlib.Core.Bool.{true};
-ghost use Prim.Native.Nat.{_-_, _≤_, _<_};
-ghost use lib.Dec.{eqb};
+ghost use Prim.Native.Nat.{_≤_, _<_};
 ghost use lib.ListN.{length, take};
 ghost use Rattle.model.specs.Answers.{filled};
 ghost use Rattle.model.specs.Check.{lookupAscends};
@@ -38,6 +37,9 @@ pub fn derive_index(
     piece_offsets: &[u32],
     lookup: &[u32],
     left: &[u32],
+    first_bytes: &[u8],
+    first_offsets: &[u32],
+    second_bytes: &[u8],
     second_offsets: &[u32],
     step_bytes: &[u8],
     steps: [Step; 16],
@@ -49,7 +51,7 @@ pub fn derive_index(
     requires { ⌜ length (now lookup) < 4294967296 ⌝ }
     requires { ⌜ length (now left) < 4294967296 ⌝ }
     requires { ⌜ indexLength ≤ length (now out) ⌝ }
-    ensures { λ _. ⌜ now (out .exit) ≡ filled (indexOf (strings (now («piece_bytes» .entry)) (now («piece_offsets» .entry))) (now (lookup .entry)) (now (left .entry)) (eqb (length (now («second_offsets» .entry)) - 1) 0) (now («step_bytes» .entry)) (take «step_count» steps) metaspace) (now (out .entry)) ⌝ }
+    ensures { λ _. ⌜ now (out .exit) ≡ filled (indexOf (strings (now («piece_bytes» .entry)) (now («piece_offsets» .entry))) (now (lookup .entry)) (now (left .entry)) (strings (now («first_bytes» .entry)) (now («first_offsets» .entry))) (strings (now («second_bytes» .entry)) (now («second_offsets» .entry))) (now («step_bytes» .entry)) (take «step_count» steps) metaspace) (now (out .entry)) ⌝ }
 {
     let mut noted = [0u32; 64];
     let split = word_split(piece_bytes, piece_offsets, metaspace, &mut noted);
@@ -65,6 +67,10 @@ pub fn derive_index(
         piece_offsets,
         lookup,
         left,
+        first_bytes,
+        first_offsets,
+        second_bytes,
+        second_offsets,
         out,
     );
     clear_from(out, crate::INDEX_LEN);

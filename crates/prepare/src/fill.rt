@@ -6,6 +6,8 @@ use model::mark::MARK;
 use model::search::find_piece;
 use model::tables::number_at;
 use model::tables::string_count;
+use sections::first::first_bytes;
+use sections::first::longest_content;
 ghost use mathlib.Core.Path.{_≡_};
 ghost use mathlib.Core.Bool.{true};
 ghost use mathlib.Core.List.{_++_};
@@ -14,7 +16,7 @@ ghost use lib.ListN.{length, take, drop};
 ghost use Rattle.model.specs.Check.{lookupAscends};
 ghost use Rattle.model.specs.Model.{strings};
 ghost use Rattle.index.specs.Index.{firstBytes, markId, bucketShift, buckets};
-ghost use Rattle.prepare.specs.Layout.{indexLength, firstBytesAt, bucketsAt, crossingsAt, indexRow};
+ghost use Rattle.prepare.specs.Layout.{indexLength, crossingsAt, firstBytesAt, bucketsAt, firstTokensAt, pieceWords, tokenWords, indexRow};
 
 // Where the entries of each first byte begin.
 fn fill_first_bytes(piece_bytes: &[u8], piece_offsets: &[u32], lookup: &[u32], words: &mut [u32])
@@ -95,8 +97,8 @@ fn copy_crossings(noted: &[u32], words: &mut [u32])
     }
 }
 
-// The whole index into the front of `words`. What is derived of steps and crossings is given.
-pub fn fill_index(
+// What is derived of pieces and rows, into the front of `words`. What is derived of steps and crossings is given.
+fn fill_pieces(
     kind: u32,
     raw_path: u32,
     count: u32,
@@ -111,8 +113,8 @@ pub fn fill_index(
     requires { ⌜ length (now lookup) < 4294967296 ⌝ }
     requires { ⌜ length (now left) < 4294967296 ⌝ }
     requires { ⌜ length (now noted) ≡ 64 ⌝ }
-    requires { ⌜ indexLength ≤ length (now words) ⌝ }
-    ensures { λ _. ⌜ now (words .exit) ≡ indexRow kind «raw_path» count (now (noted .entry)) (strings (now («piece_bytes» .entry)) (now («piece_offsets» .entry))) (now (lookup .entry)) (now (left .entry)) ++ drop indexLength (now (words .entry)) ⌝ }
+    requires { ⌜ firstTokensAt ≤ length (now words) ⌝ }
+    ensures { λ _. ⌜ now (words .exit) ≡ pieceWords kind «raw_path» count (now (noted .entry)) (strings (now («piece_bytes» .entry)) (now («piece_offsets» .entry))) (now (lookup .entry)) (now (left .entry)) ++ drop firstTokensAt (now (words .entry)) ⌝ }
 {
     let shift = bucket_shift(string_count(piece_offsets));
     let mark = mark_id(piece_bytes, piece_offsets, lookup);
@@ -124,4 +126,66 @@ pub fn fill_index(
     words[crate::SHIFT_AT] = shift;
     fill_first_bytes(piece_bytes, piece_offsets, lookup, words);
     fill_buckets(left, shift, words);
+}
+
+// What is derived of the two token lists.
+fn fill_tokens(
+    first: &[u8],
+    first_offsets: &[u32],
+    second: &[u8],
+    second_offsets: &[u32],
+    words: &mut [u32],
+)
+    requires { ⌜ indexLength ≤ length (now words) ⌝ }
+    ensures { λ _. ⌜ now (words .exit) ≡ take firstTokensAt (now (words .entry)) ++ tokenWords (strings (now (first .entry)) (now («first_offsets» .entry))) (strings (now (second .entry)) (now («second_offsets» .entry))) ++ drop indexLength (now (words .entry)) ⌝ }
+{
+    let longest = longest_content(first, first_offsets);
+    first_bytes(
+        first,
+        first_offsets,
+        &mut words[crate::FIRST_TOKENS_AT..crate::SECOND_TOKENS_AT],
+    );
+    first_bytes(
+        second,
+        second_offsets,
+        &mut words[crate::SECOND_TOKENS_AT..crate::LONGEST_AT],
+    );
+    words[crate::LONGEST_AT] = longest;
+}
+
+// The whole index into the front of `words`.
+pub fn fill_index(
+    kind: u32,
+    raw_path: u32,
+    count: u32,
+    noted: &[u32],
+    piece_bytes: &[u8],
+    piece_offsets: &[u32],
+    lookup: &[u32],
+    left: &[u32],
+    first: &[u8],
+    first_offsets: &[u32],
+    second: &[u8],
+    second_offsets: &[u32],
+    words: &mut [u32],
+)
+    requires { ⌜ lookupAscends (strings (now «piece_bytes») (now «piece_offsets»)) (now lookup) ≡ true ⌝ }
+    requires { ⌜ length (now lookup) < 4294967296 ⌝ }
+    requires { ⌜ length (now left) < 4294967296 ⌝ }
+    requires { ⌜ length (now noted) ≡ 64 ⌝ }
+    requires { ⌜ indexLength ≤ length (now words) ⌝ }
+    ensures { λ _. ⌜ now (words .exit) ≡ indexRow kind «raw_path» count (now (noted .entry)) (strings (now («piece_bytes» .entry)) (now («piece_offsets» .entry))) (now (lookup .entry)) (now (left .entry)) (strings (now (first .entry)) (now («first_offsets» .entry))) (strings (now (second .entry)) (now («second_offsets» .entry))) ++ drop indexLength (now (words .entry)) ⌝ }
+{
+    fill_pieces(
+        kind,
+        raw_path,
+        count,
+        noted,
+        piece_bytes,
+        piece_offsets,
+        lookup,
+        left,
+        words,
+    );
+    fill_tokens(first, first_offsets, second, second_offsets, words);
 }

@@ -20,7 +20,7 @@ ghost use Rattle.prepare.specs.Prepare.{PrepareOutcome, prepareOutcome};
 // The lengths of the two rows.
 pub const ADJACENCY_LEN: usize = 1024;
 
-pub const INDEX_LEN: usize = 4423;
+pub const INDEX_LEN: usize = 4936;
 
 // Where the parts of the index begin.
 pub const KIND_AT: usize = 0;
@@ -38,6 +38,12 @@ pub const SHIFT_AT: usize = 68;
 pub const FIRST_BYTES_AT: usize = 69;
 
 pub const BUCKETS_AT: usize = 326;
+
+pub const FIRST_TOKENS_AT: usize = 4423;
+
+pub const SECOND_TOKENS_AT: usize = 4679;
+
+pub const LONGEST_AT: usize = 4935;
 
 // `prepare` on a model that `model::check` accepts.
 pub fn prepare_checked(
@@ -81,6 +87,9 @@ pub fn prepare_checked(
         piece_offsets,
         lookup,
         left,
+        first_bytes,
+        first_offsets,
+        second_bytes,
         second_offsets,
         step_bytes,
         steps,

@@ -1,5 +1,6 @@
 -- Laws on the definitions of this crate, for its proofs and those of the crates above it.
 pub mod SeekLaws
+pub mod LengthLaws
 pub mod StripLaws
 pub mod InsideLaws
 pub mod TakenLaws

@@ -20,7 +20,8 @@ use Rattle.model.specs.declared.Found.the-variants.{At, Nothing}
 use Rattle.model.specs.inner.Search.{foundId}
 use Rattle.model.specs.Check.{emptyOrNoText, badToken}
 use Rattle.sections.specs.Matches.{Match, longer, longest, longestAt, matchOr, firstMatch}
-use Rattle.sections.specs.inner.Seek.{beginsWith, firstBytes, noteFirst, noteFirsts, mayBegin, rowIn, rowAt, rowBy, placed, matchBy}
+use Rattle.sections.specs.Beginnings.{beginsWith, beginnings}
+use Rattle.sections.specs.inner.Seek.{noteFirst, noteFirsts, mayBegin, rowIn, rowAt, rowBy, placed, matchBy}
 
 -- ---- the bytes that contents begin with
 
@@ -53,26 +54,26 @@ noteFirsts-at (c ∷ contents) row b h =
     go true false = refl
     go false t = refl
 
-firstBytes-at : (contents : List (List ℕ)) (n b d : ℕ) → b < n → getD (firstBytes contents n) b d ≡ cond (any (beginsWith b) contents) 1 0
-unfolding firstBytes
-firstBytes-at contents n b d h =
+beginnings-at : (contents : List (List ℕ)) (n b d : ℕ) → b < n → getD (beginnings contents n) b d ≡ cond (any (beginsWith b) contents) 1 0
+unfolding beginnings
+beginnings-at contents n b d h =
     let f : ℕ → ℕ = λ b. cond (any (beginsWith b) contents) 1 0 in
     getD-inside (map f (below n)) b d (f 0) (omega (arith, length-map (below n) f, length-countFrom 0 n))
     ∙ List·getD-map f (below n) b 0
     ∙ ap f (getD-countFrom 0 n b 0 h ∙ omega arith)
 
-length-firstBytes : (contents : List (List ℕ)) (n : ℕ) → length (firstBytes contents n) ≡ n
-unfolding firstBytes
-length-firstBytes contents n = length-map (below n) _ ∙ length-countFrom 0 n
+pub length-beginnings : (contents : List (List ℕ)) (n : ℕ) → length (beginnings contents n) ≡ n
+unfolding beginnings
+length-beginnings contents n = length-map (below n) _ ∙ length-countFrom 0 n
 
 -- Noting the contents one by one in a row of zeros makes the row.
-pub noted-first : (contents : List (List ℕ)) (n : ℕ) → noteFirsts contents (replicate n 0) ≡ firstBytes contents n
+pub noted-first : (contents : List (List ℕ)) (n : ℕ) → noteFirsts contents (replicate n 0) ≡ beginnings contents n
 noted-first contents n =
     let long : length (noteFirsts contents (replicate n 0)) ≡ n = length-noteFirsts contents (replicate n 0) ∙ length-replicate {A = ℕ} n 0 in
-    ext-getD 0 (noteFirsts contents (replicate n 0)) (firstBytes contents n) (long ∙ sym (length-firstBytes contents n))
+    ext-getD 0 (noteFirsts contents (replicate n 0)) (beginnings contents n) (long ∙ sym (length-beginnings contents n))
     (λ b h. noteFirsts-at contents (replicate n 0) b (omega (arith, length-replicate {A = ℕ} n 0))
     ∙ ap (cond (any (beginsWith b) contents) 1) (getD-replicate n b 0 0 (omega arith))
-    ∙ sym (firstBytes-at contents n b 0 (omega arith)))
+    ∙ sym (beginnings-at contents n b 0 (omega arith)))
 
 -- Zeros up to the end are a row of zeros.
 pub cleared : (before row : List ℕ) (i : ℕ) → i ≤ length before → length before ≤ i → row ≡ replicate i 0 ++ drop i before → row ≡ replicate (length before) 0
@@ -111,7 +112,7 @@ module _ (begins : List ℕ) (b : ℕ) where
 pub record Sound (begins : List ℕ) (contents : List (List ℕ)) : Type 0 where
   pub none-begins : (b : ℕ) → mayBegin begins b ≡ false → any (beginsWith b) contents ≡ false
 
-pub first-sound : (contents : List (List ℕ)) (n : ℕ) → Sound (firstBytes contents n) contents
+pub first-sound : (contents : List (List ℕ)) (n : ℕ) → Sound (beginnings contents n) contents
 unfolding mayBegin
 first-sound contents n = record { none-begins = λ b e. at-byte b e }
   where
@@ -119,8 +120,8 @@ first-sound contents n = record { none-begins = λ b e. at-byte b e }
     inside b true e = clash e refl
     inside b false e = refl
 
-    at-byte : (b : ℕ) → mayBegin (firstBytes contents n) b ≡ false → any (beginsWith b) contents ≡ false
-    at-byte b e = ⊎-elim (λ q. inside b (any (beginsWith b) contents) (rw (firstBytes-at contents n b 1 (ltb-true b n q)) at e)) (λ q. clash e (rw (List·getD-eq-default (firstBytes contents n) 1 {n = b} (omega (arith, length-firstBytes contents n, ltb-false b n q))))) (either (ltb b n))
+    at-byte : (b : ℕ) → mayBegin (beginnings contents n) b ≡ false → any (beginsWith b) contents ≡ false
+    at-byte b e = ⊎-elim (λ q. inside b (any (beginsWith b) contents) (rw (beginnings-at contents n b 1 (ltb-true b n q)) at e)) (λ q. clash e (rw (List·getD-eq-default (beginnings contents n) 1 {n = b} (omega (arith, length-beginnings contents n, ltb-false b n q))))) (either (ltb b n))
 
 -- ---- the longest content at the head of a text
 

@@ -1,3 +1,4 @@
+pub mod Beginnings
 pub mod Matches
 pub mod Sections
 pub mod SecondList

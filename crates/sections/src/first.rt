@@ -1,11 +1,15 @@
-// The bytes that contents of a token list begin with.
+// What is derived of a token list once: the bytes that contents begin with, and the length of the longest.
+use model::tables::part;
 use model::tables::string_at;
 use model::tables::string_count;
 use utf8::bytes::wide;
 ghost use mathlib.Core.Path.{_≡_};
-ghost use lib.ListN.{length, replicate};
+ghost use mathlib.Core.List.{[]};
+ghost use Prim.Native.Nat.{_+_, _<_};
+ghost use lib.ListN.{length, getD, replicate};
 ghost use Rattle.model.specs.Model.{strings};
-ghost use Rattle.sections.specs.inner.Seek.{firstBytes, noteFirst, mayBegin};
+ghost use Rattle.sections.specs.Beginnings.{beginnings, longestContent};
+ghost use Rattle.sections.specs.inner.Seek.{noteFirst, mayBegin};
 
 fn clear(begins: &mut [u32])
     ensures { λ _. ⌜ now (begins .exit) ≡ replicate (length (now (begins .entry))) 0 ⌝ }
@@ -31,7 +35,7 @@ fn note_first(content: &[u8], begins: &mut [u32])
 
 // A number for each byte, as many as there is room for: 1 if some content begins with the byte, else 0.
 pub fn first_bytes(bytes: &[u8], offsets: &[u32], begins: &mut [u32])
-    ensures { λ _. ⌜ now (begins .exit) ≡ firstBytes (strings (now (bytes .entry)) (now (offsets .entry))) (length (now (begins .entry))) ⌝ }
+    ensures { λ _. ⌜ now (begins .exit) ≡ beginnings (strings (now (bytes .entry)) (now (offsets .entry))) (length (now (begins .entry))) ⌝ }
 {
     clear(begins);
     let count = string_count(offsets);
@@ -52,4 +56,31 @@ pub fn may_begin(begins: &[u32], b: u8) -> bool
         return true;
     }
     begins[at] != 0
+}
+
+// The length of a content.
+fn content_length(bytes: &[u8], offsets: &[u32], row: usize) -> u32
+    requires { ⌜ row + 1 < length (now offsets) ⌝ }
+    ensures { λ r. ⌜ r ≡ length (getD (strings (now (bytes .entry)) (now (offsets .entry))) row []) ⌝ }
+{
+    let start = model::tables::wide(offsets[row]);
+    let stop = model::tables::wide(offsets[row + 1]);
+    let content = part(bytes, start, stop);
+    content.len() as u32
+}
+
+// The length of the longest content, 0 without contents. The rows are walked from the last.
+pub fn longest_content(bytes: &[u8], offsets: &[u32]) -> u32
+    ensures { λ r. ⌜ r ≡ longestContent (strings (now (bytes .entry)) (now (offsets .entry))) ⌝ }
+{
+    let mut long = 0;
+    let mut row = string_count(offsets);
+    while 0 < row {
+        row -= 1;
+        let next = content_length(bytes, offsets, row);
+        if long < next {
+            long = next;
+        }
+    }
+    long
 }

@@ -5,20 +5,25 @@ use mathlib.Core.List.{List, [], _∷_, _++_, map}
 use mathlib.Core.Option.{Option}
 use lib.Dec.{ltb}
 use lib.ListN.{length, take}
-use Rattle.utf8.specs.Lists.{joinMap, sum}
+use Rattle.utf8.specs.Lists.{joinMap, sum, lastOr}
 use Rattle.utf8.specs.Lists as lists
+use Rattle.model.specs.Model.{TokenList}
 use Rattle.model.specs.Answers.{zeros, done, refused, Outcome}
 use Rattle.model.specs.declared.Metaspace.{Metaspace}
+use Rattle.model.specs.declared.Step.{Step}
+use Rattle.normalise.specs.Steps.{outputsOf}
 use Rattle.normalise.specs.Spaces.{metaspaceOutput, metaspaced}
+use Rattle.normalise.specs.Normalise.{outgrows}
 use Rattle.merge.specs.Start.{startingIdsBy, isDroppedBy}
 use Rattle.merge.specs.inner.Laid.{laid, markedChars}
 use Rattle.merge.specs.inner.Turns.{Merged}
 use Rattle.merge.specs.declared.Symbols.{Symbols}
-use Rattle.sections.specs.Sections.{Item, token, plain}
+use Rattle.sections.specs.Sections.{Item, token, plain, takenApart, Section, bytesOf, sections}
 use Rattle.encode.specs.declared.Counted.{Counted}
 use Rattle.encode.specs.declared.Counted.the-variants.{Counts, TooLong}
-use Rattle.sections.specs.SecondList.{NormalPart}
+use Rattle.sections.specs.SecondList.{NormalPart, normalParts}
 use Rattle.encode.specs.Parts.{Stretch, stretch}
+use Rattle.encode.specs.Encode.{held}
 use Rattle.encode.specs.inner.Writers.{Writer, inTurn}
 use Rattle.encode.specs.inner.Tables.{Tables, ownIn, stretchIn}
 
@@ -31,10 +36,10 @@ unfoldable pub partDrops : (List ℕ → Option ℕ) → List ℕ → Item Stret
 partDrops own fallback (token id) = 0
 partDrops own fallback (plain s) = lists.count (isDroppedBy own fallback) (markedChars (s .virtual) (s .raw) (s .bytes))
 
--- The first pass: how many starting ids there are, counted up to a room, and how many drops.
+-- The first pass: how many starting ids there are, counted up to a room, and how many drops, as far as an answer can tell.
 unfoldable pub partsSymbols : (List ℕ → Option ℕ) → List ℕ → List (Item Stretch) → ℕ → Symbols
 partsSymbols own fallback parts room =
-    record { count = min (sum (map (partStarts own fallback) parts)) room; drops = sum (map (partDrops own fallback) parts) }
+    record { count = min (sum (map (partStarts own fallback) parts)) room; drops = held (sum (map (partDrops own fallback) parts)) }
 
 -- One id, where there is a cell for it.
 unfoldable pub idWriter : ℕ → Writer
@@ -66,10 +71,46 @@ abbrev pub unlessLong : Bool → Merged → List ℕ → Merged
 unlessLong true written out = record { count = 0; ids = out }
 unlessLong false written out = written
 
+-- What items put out on their way, where a token puts out nothing.
+abbrev pub itemOutputs : {A : Type 0} → (A → List (List ℕ)) → Item A → List (List ℕ)
+itemOutputs outputs (token id) = []
+itemOutputs outputs (plain a) = outputs a
+
 -- What a part of a normalized section comes to, and what metaspace puts out on its way.
 unfoldable pub partStretch : Metaspace → NormalPart → List (Item Stretch)
 partStretch metaspace part = stretch (metaspaced metaspace (part .first) (part .bytes)) false false
 
-abbrev pub partOutput : Metaspace → Item NormalPart → List (List ℕ)
-partOutput metaspace (token id) = []
-partOutput metaspace (plain part) = metaspaceOutput metaspace (part .first) (part .bytes)
+abbrev pub partOutputs : Metaspace → NormalPart → List (List ℕ)
+partOutputs metaspace part = metaspaceOutput metaspace (part .first) (part .bytes)
+
+-- What normalizing a section takes.
+pub record Normal : Type 0 where
+  pub second : TokenList
+  pub stepBytes : List ℕ
+  pub steps : List Step
+  pub metaspace : Metaspace
+
+-- A section's parts.
+unfoldable pub partsIn : Normal → Bool → List ℕ → List (Item NormalPart)
+partsIn n opening section = normalParts (n .second) opening (lastOr section (outputsOf (n .stepBytes) (n .steps) section))
+
+-- What a section comes to, and what steps and metaspace put out on its way.
+unfoldable pub stretchesIn : Normal → Bool → List ℕ → List (Item Stretch)
+stretchesIn n opening section = takenApart (partStretch (n .metaspace)) (partsIn n opening section)
+
+unfoldable pub outputsIn : Normal → Bool → List ℕ → List (List ℕ)
+outputsIn n opening section =
+    outputsOf (n .stepBytes) (n .steps) section ++ joinMap (itemOutputs (partOutputs (n .metaspace))) (partsIn n opening section)
+
+-- The same for a section of a text.
+abbrev pub sectionStretches : Normal → List ℕ → Section → List (Item Stretch)
+sectionStretches n text section = stretchesIn n (section .opening) (bytesOf text section)
+
+abbrev pub sectionOutputs : Normal → List ℕ → Section → List (List ℕ)
+sectionOutputs n text section = outputsIn n (section .opening) (bytesOf text section)
+
+-- What encoding a text leaves that has to be normalized: 11 where an output is too long, and else what encoding its parts leaves.
+unfoldable pub normalOutcome : Tables → Normal → TokenList → List ℕ → ℕ → List ℕ → Outcome
+normalOutcome t n first text room out =
+    cond (outgrows (joinMap (itemOutputs (sectionOutputs n text)) (sections first text)) room) (record { answer = refused 11 0; out = out })
+    (partsOutcome t (takenApart (sectionStretches n text) (sections first text)) out)

@@ -10,7 +10,7 @@ use Rattle.units.specs.Adjacency.{pairNoted}
 use Rattle.units.specs.Derived.{namedCrossings}
 use Rattle.merge.specs.inner.Laid.{ownFound}
 use Rattle.merge.specs.inner.Turns.{rowIn}
-use Rattle.prepare.specs.Layout.{indexLength, kindAt, crossingCountAt, crossingsAt, markIdAt, shiftAt, firstBytesAt, bucketsAt}
+use Rattle.prepare.specs.Layout.{kindAt, crossingCountAt, crossingsAt, markIdAt, shiftAt, firstBytesAt, bucketsAt, firstTokensAt}
 use Rattle.prepare.specs.Numbers.{kindFrom}
 use Rattle.encode.specs.inner.Writers.{Writer, stretchWriter}
 
@@ -37,7 +37,7 @@ ownIn index pieceBytes pieceOffsets lookup =
 
 -- The row of a pair.
 unfoldable pub rowsIn : Tables → ℕ → ℕ → Option Row
-rowsIn t = rowIn (t .left) (t .right) (t .result) (t .rank) (words bucketsAt indexLength (t .index)) (getD (t .index) shiftAt 0)
+rowsIn t = rowIn (t .left) (t .right) (t .result) (t .rank) (words bucketsAt firstTokensAt (t .index)) (getD (t .index) shiftAt 0)
 
 -- Where a unit starts.
 unfoldable pub cutsIn : Tables → Bool → List ℕ → ℕ → Bool

@@ -39,7 +39,7 @@ ok s = accepted (lent s) (s .pre)
 refused-rows : (s : tie.Start) (answer : Answer) → answer ≡ refused 12 0 → length (s .args .adjacency .now) < 1024 → kept s answer ≡ wanted s
 refused-rows s answer e h = ap (kept s) e ∙ sym (short-rows (lent s) (s .args .adjacency .now) (s .args .index .now) (s .pre) h)
 
-refused-index : (s : tie.Start) (answer : Answer) → answer ≡ refused 12 0 → 1024 ≤ length (s .args .adjacency .now) → length (s .args .index .now) < 4423 → kept s answer ≡ wanted s
+refused-index : (s : tie.Start) (answer : Answer) → answer ≡ refused 12 0 → 1024 ≤ length (s .args .adjacency .now) → length (s .args .index .now) < 4936 → kept s answer ≡ wanted s
 refused-index s answer e h k = ap (kept s) e ∙ sym (short-index (lent s) (s .args .adjacency .now) (s .args .index .now) (s .pre) h k)
 
 refused-requires : tie.Need-refused-requires
@@ -86,7 +86,7 @@ returns-3 c =
     let first = second .before .before .before .before in
     let t = tested first in
     let s = start (t .before .before) in
-    put-together (lent s) (s .args .adjacency .now) (s .args .index .now) (s .pre) (t .before .if1 .left) (t .if2 .left) (c .done .result) (first .derive-adjacency .last .1 .1 .0) (second .derive-index .last .1 .1 .1 .1 .1 .1 .1 .1 .1 .0) (c .done .ensures) (first .derive-adjacency .ensures) (second .derive-index .ensures)
+    put-together (lent s) (s .args .adjacency .now) (s .args .index .now) (s .pre) (t .before .if1 .left) (t .if2 .left) (c .done .result) (first .derive-adjacency .last .1 .1 .0) (second .derive-index .last .1 .1 .1 .1 .1 .1 .1 .1 .1 .1 .1 .1 .0) (c .done .ensures) (first .derive-adjacency .ensures) (second .derive-index .ensures)
 
 pub prepare-checked-spec : {M : Type 1} → statement M
 prepare-checked-spec =

@@ -1,7 +1,7 @@
 -- The index by the tables that it is derived of.
-use mathlib.Core.Bool.{Bool}
 use mathlib.Core.List.{List}
 use Prim.Native.Nat.{ℕ}
+use Rattle.utf8.specs.Lists.{isEmpty}
 use Rattle.model.specs.declared.Step.{Step}
 use Rattle.model.specs.declared.Metaspace.{Metaspace}
 use Rattle.units.specs.Kinds.{crossings, wordSplit}
@@ -9,8 +9,8 @@ use Rattle.units.specs.Derived.{noting, rawPathBy}
 use Rattle.prepare.specs.Layout.{indexRow}
 use Rattle.prepare.specs.Numbers.{kindNumber, rawPathNumber}
 
-unfoldable pub indexOf : List (List ℕ) → List ℕ → List ℕ → Bool → List ℕ → List Step → Metaspace → List ℕ
-indexOf pieces lookup left secondEmpty stepBytes steps metaspace =
+unfoldable pub indexOf : List (List ℕ) → List ℕ → List ℕ → List (List ℕ) → List (List ℕ) → List ℕ → List Step → Metaspace → List ℕ
+indexOf pieces lookup left first second stepBytes steps metaspace =
     let kind = wordSplit (crossings pieces) metaspace in
     let noted = noting pieces kind in
-    indexRow (kindNumber kind) (rawPathNumber (rawPathBy kind secondEmpty stepBytes steps metaspace)) (noted .count) (noted .noted) pieces lookup left
+    indexRow (kindNumber kind) (rawPathNumber (rawPathBy kind (isEmpty second) stepBytes steps metaspace)) (noted .count) (noted .noted) pieces lookup left first second

@@ -1,24 +1,15 @@
 -- A search that tests a place only where its byte begins some content, on any tables.
 use Prim.Native.Nat.{ℕ, suc}
-use mathlib.Core.Bool.{Bool, false, not, cond}
-use mathlib.Core.List.{List, [], _∷_, map}
+use mathlib.Core.Bool.{Bool, not, cond}
+use mathlib.Core.List.{List, [], _∷_}
 use mathlib.Core.Option.{Option, none, some}
 use lib.Dec.{eqb}
 use lib.ListN.{getD, set}
-use Rattle.utf8.specs.Lists.{any, below}
 use Rattle.sections.specs.Matches.{Match, longestAt}
 use Rattle.sections.specs.declared.Sought.{Sought}
 use Rattle.sections.specs.declared.Sought.the-variants.{Found, Missing}
 
-abbrev pub beginsWith : ℕ → List ℕ → Bool
-beginsWith b [] = false
-beginsWith b (x ∷ xs) = eqb x b
-
--- For each byte below n: 1 if some content begins with it, else 0.
-unfoldable pub firstBytes : List (List ℕ) → ℕ → List ℕ
-firstBytes contents n = map (λ (b : ℕ). cond (any (beginsWith b) contents) 1 0) (below n)
-
--- The same row, content by content: each sets the number of its first byte.
+-- The row of beginnings, content by content: each sets the number of its first byte.
 abbrev pub noteFirst : List ℕ → List ℕ → List ℕ
 noteFirst [] row = row
 noteFirst (b ∷ bytes) row = set row b 1

@@ -21,14 +21,14 @@ abbrev tables : List ℕ → List ℕ → List ℕ → List ℕ → List ℕ →
 tables adjacency index piece-bytes piece-offsets lookup fallback left right result rank = record { adjacency = adjacency; index = index; pieceBytes = piece-bytes; pieceOffsets = piece-offsets; lookup = lookup; fallback = fallback; left = left; right = right; result = result; rank = rank }
 
 abbrev Inv-loop : tie.InvT-loop
-Inv-loop adjacency index piece-bytes piece-offsets lookup fallback left right result rank bytes offsets ids lstrip rstrip first prepend continuation text out₀ cursor₀ written₀ out cursor written =
+Inv-loop adjacency index piece-bytes piece-offsets lookup fallback left right result rank bytes offsets ids lstrip rstrip begins prepend continuation text out₀ cursor₀ written₀ out cursor written =
     let t = tokenList bytes offsets ids lstrip rstrip in
     let f = rawStretch prepend continuation text in
     let w = partWriter (tables adjacency index piece-bytes piece-offsets lookup fallback left right result rank) in
     Going (map w (takenApart f (sections t text))) (map w (partsLeft f t text cursor)) out₀ out written
 
 abbrev μ-loop : tie.MeasureT-loop
-μ-loop adjacency index piece-bytes piece-offsets lookup fallback left right result rank bytes offsets ids lstrip rstrip first prepend continuation text out₀ cursor₀ written₀ out cursor written = stepsLeft cursor
+μ-loop adjacency index piece-bytes piece-offsets lookup fallback left right result rank bytes offsets ids lstrip rstrip begins prepend continuation text out₀ cursor₀ written₀ out cursor written = stepsLeft cursor
 
 abbrev start : tie.After-sections-start Inv-loop μ-loop → tie.Start Inv-loop μ-loop
 start f = f .before .before .before .before .before .before .before .before .before .before .before .before .before .before .before .before .before .before .before
@@ -71,7 +71,7 @@ returns c =
     let f = c .before .before in
     let a = f .before in
     let s = start (a .before) in
-    parts-ended (tablesOf s) (wholeOf s) (leftAt a) (a .loop .inv) (finished (partsOf s) (tokensOf s) (s .args .text .now) (s .args .first .now) (s .pre .1 .0) (s .pre .1 .1) (a .loop .cursor) (f .next-item .ensures) (c .enum-told .given .1))
+    parts-ended (tablesOf s) (wholeOf s) (leftAt a) (a .loop .inv) (finished (partsOf s) (tokensOf s) (s .args .text .now) (s .args .begins .now) (s .pre .1 .0) (s .pre .1 .1) (a .loop .cursor) (f .next-item .ensures) (c .enum-told .given .1))
 
 enum-known-id : tie.Need-enum-known-id Inv-loop μ-loop
 enum-known-id c = search needs
@@ -105,7 +105,7 @@ loop-less c =
     let n = c .before .before .before .before .before in
     let f = n .before .before in
     let s = start (f .before .before) in
-    token-fewer (tokensOf s) (s .args .first .now) (s .args .text .now) (f .before .loop .cursor) (f .next-item .ensures) (n .id .given .1)
+    token-fewer (tokensOf s) (s .args .begins .now) (s .args .text .now) (f .before .loop .cursor) (f .next-item .ensures) (n .id .given .1)
 
 loop-again : tie.Need-loop-again Inv-loop μ-loop
 loop-again c =
@@ -114,7 +114,7 @@ loop-again c =
     let f = n .before .before in
     let a = f .before in
     let s = start (a .before) in
-    token-on (tablesOf s) (wholeOf s) (leftAt a) (a .loop .inv) (n .id .given .0 .0) _ (token-next (partsOf s) (tokensOf s) (s .args .text .now) (s .args .first .now) (s .pre .1 .0) (s .pre .1 .1) (a .loop .cursor) (f .next-item .ensures) (n .id .given .1)) (e .put-id .ensures)
+    token-on (tablesOf s) (wholeOf s) (leftAt a) (a .loop .inv) (n .id .given .0 .0) _ (token-next (partsOf s) (tokensOf s) (s .args .text .now) (s .args .begins .now) (s .pre .1 .0) (s .pre .1 .1) (a .loop .cursor) (f .next-item .ensures) (n .id .given .1)) (e .put-id .ensures)
 
 enum-known-start : tie.Need-enum-known-start Inv-loop μ-loop
 enum-known-start c = search needs
@@ -161,7 +161,7 @@ loop-less-2 c =
     let n = c .before .before .before .before .before .before in
     let f = n .before .before in
     let s = start (f .before .before) in
-    plain-fewer (tokensOf s) (s .args .first .now) (s .args .text .now) (f .before .loop .cursor) (f .next-item .ensures) (n .start .given .1)
+    plain-fewer (tokensOf s) (s .args .begins .now) (s .args .text .now) (f .before .loop .cursor) (f .next-item .ensures) (n .start .given .1)
 
 loop-again-2 : tie.Need-loop-again-2 Inv-loop μ-loop
 loop-again-2 c =
@@ -172,7 +172,7 @@ loop-again-2 c =
     let a = f .before in
     let s = start (a .before) in
     let now = n .start .given .0 in
-    parts-on (tablesOf s) (wholeOf s) (leftAt a) (a .loop .inv) (sectionAt n) _ (plain-next (partsOf s) (tokensOf s) (s .args .text .now) (s .args .first .now) (s .pre .1 .0) (s .pre .1 .1) (a .loop .cursor) (f .next-item .ensures) (n .start .given .1))
+    parts-on (tablesOf s) (wholeOf s) (leftAt a) (a .loop .inv) (sectionAt n) _ (plain-next (partsOf s) (tokensOf s) (s .args .text .now) (s .args .begins .now) (s .pre .1 .0) (s .pre .1 .1) (a .loop .cursor) (f .next-item .ensures) (n .start .given .1))
     (e .encode-section .ensures ∙ ap (λ (l : List (Item Stretch)). partsWriter (tablesOf s) l (take (length (a .loop .out) - a .loop .written) (drop (a .loop .written) (a .loop .out)))) (raw-section (s .args .prepend) (s .args .continuation) (s .args .text .now) (now .0) (now .1 .0) (now .1 .1 .0) (p .part .ensures)))
 
 pub write-raw-spec : {M : Type 1} → statement M

@@ -1,8 +1,12 @@
 -- `encode::stretch::count_stretch` meets its contract.
+use native.Mathlib.Omega.{arith}
 use borrow.Author.Needs.{needs}
 use Rattle.encode.proofs.PassLaws.{nothing-counted, stretch-told}
 use Rattle.encode.proofs.stretch.count_stretch.Statement.{statement}
 use Rattle.encode.proofs.stretch.count_stretch.Tie as tie
+
+abbrev start : tie.After-count-symbols → tie.Start
+start c = c .before .before .before .before .before .before .before .before .before .before
 
 returns : tie.Need-returns
 returns c = nothing-counted _ _ _ _ _ _ (c .if1 .taken)
@@ -23,7 +27,7 @@ count-symbols-requires : tie.Need-count-symbols-requires
 count-symbols-requires c κs = search needs
 
 returns-2 : tie.Need-returns-2
-returns-2 c = stretch-told _ _ _ _ _ _ _ _ _ (c .count-symbols .ensures) (c .before .number-at .ensures) (c .before .before .before .if1 .left)
+returns-2 c = stretch-told _ _ _ _ _ _ _ _ _ (c .count-symbols .ensures) (c .before .number-at .ensures) (c .before .before .before .if1 .left) (omega (arith, start c .good .1 .1 .1 .1 .1 .0 .1))
 
 pub count-stretch-spec : {M : Type 1} → statement M
 count-stretch-spec =

@@ -2,13 +2,16 @@
 use mathlib.Core.Path.{_≡_, sym, ap, _∙_}
 use mathlib.Core.Bool.{Bool}
 use mathlib.Core.List.{List}
-use Prim.Native.Nat.{ℕ, _-_, _≤_}
+use Prim.Native.Nat.{ℕ, _≤_}
 use native.Mathlib.Omega.{arith}
 use borrow.Author.Needs.{needs}
 use lib.Dec.{eqb}
 use lib.ListN.{length, take, drop, length-append}
+use Rattle.utf8.specs.Lists.{isEmpty}
+use Rattle.utf8.proofs.Places.{empty-by-length}
 use Rattle.model.specs.Answers.{filled}
 use Rattle.model.specs.Model.{strings}
+use Rattle.model.proofs.StringLaws.{length-strings}
 use Rattle.units.specs.Derived.{rawPathBy}
 use Rattle.prepare.specs.Layout.{indexRow}
 use Rattle.prepare.specs.inner.Derive.{indexOf}
@@ -20,13 +23,17 @@ use Rattle.prepare.proofs.derive.derive_index.Tie as tie
 
 -- the start of the call, from where the kind is known
 abbrev start : tie.After-word-split → tie.Start
-start c = c .before .before .before .before .before .before .before .before .before
+start c = c .before .before .before .before .before .before .before .before .before .before .before .before
 
 abbrev pieces : tie.Start → List (List ℕ)
 pieces s = strings (s .args .piece-bytes .now) (s .args .piece-offsets .now)
 
-abbrev empty : tie.Start → Bool
-empty s = eqb (length (s .args .second-offsets .now) - 1) 0
+-- the contents of the two token lists
+abbrev first : tie.Start → List (List ℕ)
+first s = strings (s .args .first-bytes .now) (s .args .first-offsets .now)
+
+abbrev second : tie.Start → List (List ℕ)
+second s = strings (s .args .second-bytes .now) (s .args .second-offsets .now)
 
 -- where the kind is known, from where the numbers are
 abbrev split : tie.After-raw-path-number → tie.After-word-split
@@ -35,12 +42,12 @@ split c = c .before .before .before .before
 few : (c : tie.After-word-split) → c .word-split .result .count ≤ 32
 few c =
     let s = start c in
-    count-small (pieces s) (s .args .lookup .now) (s .args .left .now) (empty s) (s .args .step-bytes .now) (take (s .args .step-count) (s .args .steps)) (s .args .metaspace) (c .word-split .result .kind) (c .word-split .result .count) (c .word-split .last .1 .1 .1 .0) (c .word-split .ensures)
+    count-small (pieces s) (s .args .lookup .now) (s .args .left .now) (first s) (second s) (s .args .step-bytes .now) (take (s .args .step-count) (s .args .steps)) (s .args .metaspace) (c .word-split .result .kind) (c .word-split .result .count) (c .word-split .last .1 .1 .1 .0) (c .word-split .ensures)
 
 long : (c : tie.After-word-split) → length (c .word-split .last .1 .1 .1 .0) ≡ 64
 long c =
     let s = start c in
-    words-64 (pieces s) (s .args .lookup .now) (s .args .left .now) (empty s) (s .args .step-bytes .now) (take (s .args .step-count) (s .args .steps)) (s .args .metaspace) (c .word-split .result .kind) (c .word-split .result .count) (c .word-split .last .1 .1 .1 .0) (c .word-split .ensures)
+    words-64 (pieces s) (s .args .lookup .now) (s .args .left .now) (first s) (second s) (s .args .step-bytes .now) (take (s .args .step-count) (s .args .steps)) (s .args .metaspace) (c .word-split .result .kind) (c .word-split .result .count) (c .word-split .last .1 .1 .1 .0) (c .word-split .ensures)
 
 -- ---- after the index is filled
 
@@ -56,29 +63,35 @@ module _ (c : tie.After-fill-index) where
 
   abbrev row : List ℕ
   row =
-      indexRow (numbered .before .kind-number .result) (numbered .raw-path-number .result) (filled-from .word-split .result .count) (filled-from .word-split .last .1 .1 .1 .0) (pieces at-start) (at-start .args .lookup .now) (at-start .args .left .now)
+      indexRow (numbered .before .kind-number .result) (numbered .raw-path-number .result) (filled-from .word-split .result .count) (filled-from .word-split .last .1 .1 .1 .0) (pieces at-start) (at-start .args .lookup .now) (at-start .args .left .now) (first at-start) (second at-start)
 
-  row-long : length row ≡ 4423
+  row-long : length row ≡ 4936
   row-long =
-      length-index (numbered .before .kind-number .result) (numbered .raw-path-number .result) (filled-from .word-split .result .count) (filled-from .word-split .last .1 .1 .1 .0) (pieces at-start) (at-start .args .lookup .now) (at-start .args .left .now) (long filled-from)
+      length-index (numbered .before .kind-number .result) (numbered .raw-path-number .result) (filled-from .word-split .result .count) (filled-from .word-split .last .1 .1 .1 .0) (pieces at-start) (at-start .args .lookup .now) (at-start .args .left .now) (first at-start) (second at-start) (long filled-from)
 
   fits : length row ≤ length (at-start .args .out .now)
   fits = omega (arith, row-long, at-start .pre .1 .1 .1)
 
-  room : 4423 ≤ length (c .fill-index .last .1 .1 .1 .1 .1 .1 .1 .1 .0)
-  room = omega (arith, row-long, ap length (c .fill-index .ensures), length-append row (drop 4423 (at-start .args .out .now)))
+  room : 4936 ≤ length (c .fill-index .last .1 .1 .1 .1 .1 .1 .1 .1 .1 .1 .1 .1 .0)
+  room = omega (arith, row-long, ap length (c .fill-index .ensures), length-append row (drop 4936 (at-start .args .out .now)))
 
-  path-is : numbered .before .before .raw-path .result ≡ rawPathBy (filled-from .word-split .result .kind) (empty at-start) (at-start .args .step-bytes .now) (take (at-start .args .step-count) (at-start .args .steps)) (at-start .args .metaspace)
+  -- whether there are tokens in the second list
+  empty-is : eqb (numbered .before .before .before .string-count .result) 0 ≡ isEmpty (second at-start)
+  empty-is =
+      ap (λ (n : ℕ). eqb n 0) (numbered .before .before .before .string-count .ensures ∙ sym (length-strings (at-start .args .second-bytes .now) (at-start .args .second-offsets .now)))
+      ∙ sym (empty-by-length (second at-start))
+
+  path-is : numbered .before .before .raw-path .result ≡ rawPathBy (filled-from .word-split .result .kind) (isEmpty (second at-start)) (at-start .args .step-bytes .now) (take (at-start .args .step-count) (at-start .args .steps)) (at-start .args .metaspace)
   path-is =
       numbered .before .before .raw-path .ensures
       ∙ ap
-      (λ (n : ℕ). rawPathBy (filled-from .word-split .result .kind) (eqb n 0) (at-start .args .step-bytes .now) (take (at-start .args .step-count) (at-start .args .steps)) (at-start .args .metaspace))
-      (numbered .before .before .before .string-count .ensures)
+      (λ (empty : Bool). rawPathBy (filled-from .word-split .result .kind) empty (at-start .args .step-bytes .now) (take (at-start .args .step-count) (at-start .args .steps)) (at-start .args .metaspace))
+      empty-is
 
-  row-is : row ≡ indexOf (pieces at-start) (at-start .args .lookup .now) (at-start .args .left .now) (empty at-start) (at-start .args .step-bytes .now) (take (at-start .args .step-count) (at-start .args .steps)) (at-start .args .metaspace)
+  row-is : row ≡ indexOf (pieces at-start) (at-start .args .lookup .now) (at-start .args .left .now) (first at-start) (second at-start) (at-start .args .step-bytes .now) (take (at-start .args .step-count) (at-start .args .steps)) (at-start .args .metaspace)
   row-is =
       let s = at-start in
-      index-derived (pieces s) (s .args .lookup .now) (s .args .left .now) (empty s) (s .args .step-bytes .now) (take (s .args .step-count) (s .args .steps)) (s .args .metaspace) (filled-from .word-split .result .kind) (filled-from .word-split .result .count) (filled-from .word-split .last .1 .1 .1 .0) (filled-from .word-split .ensures)
+      index-derived (pieces s) (s .args .lookup .now) (s .args .left .now) (first s) (second s) (s .args .step-bytes .now) (take (s .args .step-count) (s .args .steps)) (s .args .metaspace) (filled-from .word-split .result .kind) (filled-from .word-split .result .count) (filled-from .word-split .last .1 .1 .1 .0) (filled-from .word-split .ensures)
       (numbered .before .before .raw-path .result) (numbered .before .kind-number .result) (numbered .raw-path-number .result) path-is (numbered .before .kind-number .ensures) (numbered .raw-path-number .ensures)
 
 word-split-requires : tie.Need-word-split-requires
@@ -117,7 +130,7 @@ returns : tie.Need-returns
 returns c =
     let f = c .before .before .before .before .before .before in
     let s = start (filled-from f) in
-    cleared-behind (row f) (s .args .out .now) (fits f) (f .fill-index .last .1 .1 .1 .1 .1 .1 .1 .1 .0) (c .before .before .clear-from .last .0) 4423 (row-long f) (f .fill-index .ensures) (c .before .before .clear-from .ensures)
+    cleared-behind (row f) (s .args .out .now) (fits f) (f .fill-index .last .1 .1 .1 .1 .1 .1 .1 .1 .1 .1 .1 .1 .0) (c .before .before .clear-from .last .0) 4936 (row-long f) (f .fill-index .ensures) (c .before .before .clear-from .ensures)
     ∙ ap (λ (words : List ℕ). filled words (s .args .out .now)) (row-is f)
 
 pub derive-index-spec : {M : Type 1} → statement M

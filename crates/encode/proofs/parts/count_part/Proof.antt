@@ -1,8 +1,8 @@
--- `encode::normal::count_part` meets its contract.
+-- `encode::parts::count_part` meets its contract.
 use borrow.Author.Needs.{needs}
 use Rattle.encode.proofs.NormalLaws.{leaves-absent, leaves-present, too-long, part-counted, part-uncounted}
-use Rattle.encode.proofs.normal.count_part.Statement.{statement}
-use Rattle.encode.proofs.normal.count_part.Tie as tie
+use Rattle.encode.proofs.parts.count_part.Statement.{statement}
+use Rattle.encode.proofs.parts.count_part.Tie as tie
 
 abbrev start : tie.After-metaspace → tie.Start
 start f = f .before .before .before .before .before .before .before .before .before

@@ -1,4 +1,4 @@
--- `encode::normal::encode_parts` meets its contract. The loop's invariant: the parts before the cursor are written, those from there on follow, and
+-- `encode::parts::encode_parts` meets its contract. The loop's invariant: the parts before the cursor are written, those from there on follow, and
 -- none of them is too long.
 use Prim.Native.Nat.{ℕ, _-_}
 use native.Mathlib.Omega.{arith}
@@ -14,12 +14,13 @@ use Rattle.sections.proofs.StepLaws.{stepsLeft}
 use Rattle.sections.proofs.PartLaws.{partsLeft, parts-start}
 use Rattle.encode.specs.Parts.{Stretch}
 use Rattle.encode.specs.inner.Tables.{Tables}
-use Rattle.encode.specs.inner.Passes.{partWriter, partStretch}
+use Rattle.encode.specs.inner.Passes.{partWriter, partStretch, partOutputs}
 use Rattle.encode.proofs.WriterLaws.{Going, going-start}
 use Rattle.encode.proofs.PassLaws.{parts-on, parts-fit, token-on, token-fit, parts-ended}
-use Rattle.encode.proofs.PartLaws.{Short, short-head, short-rest, part-next, added-next, none-next, part-fewer, added-fewer, part-put}
-use Rattle.encode.proofs.normal.encode_parts.Statement.{statement}
-use Rattle.encode.proofs.normal.encode_parts.Tie as tie
+use Rattle.encode.proofs.ItemLaws.{Short, short-head, short-rest}
+use Rattle.encode.proofs.PartLaws.{part-next, added-next, none-next, part-fewer, added-fewer, part-put}
+use Rattle.encode.proofs.parts.encode_parts.Statement.{statement}
+use Rattle.encode.proofs.parts.encode_parts.Tie as tie
 
 abbrev tables : List ℕ → List ℕ → List ℕ → List ℕ → List ℕ → List ℕ → List ℕ → List ℕ → List ℕ → List ℕ → Tables
 tables adjacency index piece-bytes piece-offsets lookup fallback left right result rank = record { adjacency = adjacency; index = index; pieceBytes = piece-bytes; pieceOffsets = piece-offsets; lookup = lookup; fallback = fallback; left = left; right = right; result = result; rank = rank }
@@ -29,7 +30,7 @@ Inv-loop adjacency index piece-bytes piece-offsets lookup fallback left right re
     let t = tokenList bytes offsets ids lstrip rstrip in
     let f = takenApart (partStretch metaspace) in
     let w = partWriter (tables adjacency index piece-bytes piece-offsets lookup fallback left right result rank) in
-    Going (map w (f (normalParts t opening text))) (map w (f (partsLeft t text cursor))) out₀ out written × Short metaspace room (partsLeft t text cursor) × (length scratch ≡ length scratch₀)
+    Going (map w (f (normalParts t opening text))) (map w (f (partsLeft t text cursor))) out₀ out written × Short (partOutputs metaspace) room (partsLeft t text cursor) × (length scratch ≡ length scratch₀)
 
 abbrev μ-loop : tie.MeasureT-loop
 μ-loop adjacency index piece-bytes piece-offsets lookup fallback left right result rank bytes offsets ids lstrip rstrip begins metaspace opening text room scratch₀ out₀ cursor₀ written₀ scratch out cursor written = stepsLeft cursor

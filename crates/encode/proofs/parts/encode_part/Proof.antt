@@ -1,8 +1,8 @@
--- `encode::normal::encode_part` meets its contract.
+-- `encode::parts::encode_part` meets its contract.
 use borrow.Author.Needs.{needs}
 use Rattle.encode.proofs.NormalLaws.{leaves-absent, leaves-present, too-long, part-written, part-unwritten}
-use Rattle.encode.proofs.normal.encode_part.Statement.{statement}
-use Rattle.encode.proofs.normal.encode_part.Tie as tie
+use Rattle.encode.proofs.parts.encode_part.Statement.{statement}
+use Rattle.encode.proofs.parts.encode_part.Tie as tie
 
 abbrev start : tie.After-metaspace → tie.Start
 start f = f .before .before .before .before .before .before .before .before .before .before .before .before .before .before .before

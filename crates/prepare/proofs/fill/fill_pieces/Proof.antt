@@ -1,0 +1,139 @@
+-- `prepare::fill::fill_pieces` meets its contract: its parts are written one after the other.
+use mathlib.Core.Path.{_≡_, sym, ap, _∙_}
+use mathlib.Core.List.{List, _++_}
+use Prim.Native.Nat.{ℕ, _≤_}
+use native.Mathlib.Omega.{arith}
+use borrow.Author.Needs.{needs}
+use lib.ListN.{length, drop, length-set}
+use Rattle.model.specs.Model.{strings}
+use Rattle.model.proofs.StringLaws.{length-strings}
+use Rattle.index.specs.Index.{markId, bucketShift}
+use Rattle.prepare.specs.Layout.{pieceWords}
+use Rattle.prepare.proofs.LayoutLaws.{crossed-long, started-long, last-long, pieces-filled}
+use Rattle.prepare.proofs.fill.fill_pieces.Statement.{statement}
+use Rattle.prepare.proofs.fill.fill_pieces.Tie as tie
+
+-- the start of the call, from where the mark's id is known
+abbrev start : tie.After-mark-id → tie.Start
+start c = c .before .before .before .before .before .before .before .before .before
+
+abbrev pieces : tie.Start → List (List ℕ)
+pieces s = strings (s .args .piece-bytes .now) (s .args .piece-offsets .now)
+
+string-count-requires : tie.Need-string-count-requires
+string-count-requires c κs = search needs
+
+bucket-shift-requires : tie.Need-bucket-shift-requires
+bucket-shift-requires c κs = search needs
+
+mark-id-requires : tie.Need-mark-id-requires
+mark-id-requires c κs = c .before .before .before .before .before .before .before .before .pre .0
+
+-- the mark's id and the shift are those of the index
+mark-is : (c : tie.After-mark-id) → c .mark-id .result ≡ markId (pieces (start c)) (start c .args .lookup .now)
+mark-is c = c .mark-id .ensures
+
+shift-is : (c : tie.After-mark-id) → c .before .bucket-shift .result ≡ bucketShift (length (pieces (start c)))
+shift-is c =
+    c .before .bucket-shift .ensures .0
+    ∙ ap bucketShift (c .before .before .string-count .ensures ∙ sym (length-strings (start c .args .piece-bytes .now) (start c .args .piece-offsets .now)))
+
+-- there is room
+room : (s : tie.Start) → 4423 ≤ length (s .args .words .now)
+room s = s .pre .1 .1 .1 .1
+
+-- the buffer after each call is as long as it was
+long-1 : (c : tie.After-copy-crossings) → length (c .copy-crossings .last .1 .0) ≡ length (start (c .before .before) .args .words .now)
+long-1 c =
+    let s = start (c .before .before) in
+    crossed-long (s .args .kind) (s .args .raw-path) (s .args .count) (s .args .noted .now) (pieces s) (s .args .lookup .now) (s .args .left .now) (s .pre .1 .1 .1 .0) (s .args .words .now) (room s)
+    (c .copy-crossings .last .1 .0) (c .copy-crossings .ensures)
+
+module _ (c : tie.After-fill-first-bytes) where
+  abbrev crossed : tie.After-copy-crossings
+  crossed = c .before .before .before .before
+
+  abbrev marked : tie.After-mark-id
+  marked = crossed .before .before
+
+  long-2 : length (c .fill-first-bytes .last .1 .1 .1 .0) ≡ length (start marked .args .words .now)
+  long-2 =
+      let s = start marked in
+      started-long (s .args .kind) (s .args .raw-path) (s .args .count) (s .args .noted .now) (pieces s) (s .args .lookup .now) (s .args .left .now) (s .pre .1 .1 .1 .0) (s .args .words .now) (room s)
+      (crossed .copy-crossings .last .1 .0) (crossed .copy-crossings .ensures) (marked .mark-id .result) (marked .before .bucket-shift .result) (mark-is marked) (shift-is marked)
+      (c .fill-first-bytes .last .1 .1 .1 .0) (c .fill-first-bytes .ensures)
+
+module _ (c : tie.After-fill-buckets) where
+  abbrev started : tie.After-fill-first-bytes
+  started = c .before .before .before .before
+
+  abbrev at-start : tie.Start
+  at-start = start (marked started)
+
+  long-3 : length (c .fill-buckets .last .1 .1 .0) ≡ length (at-start .args .words .now)
+  long-3 =
+      let s = at-start in
+      last-long (s .args .kind) (s .args .raw-path) (s .args .count) (s .args .noted .now) (pieces s) (s .args .lookup .now) (s .args .left .now) (s .pre .1 .1 .1 .0) (s .args .words .now) (room s)
+      (crossed started .copy-crossings .last .1 .0) (crossed started .copy-crossings .ensures) (marked started .mark-id .result) (marked started .before .bucket-shift .result) (mark-is (marked started)) (shift-is (marked started))
+      (started .fill-first-bytes .last .1 .1 .1 .0) (started .fill-first-bytes .ensures) (c .fill-buckets .last .1 .1 .0) (c .fill-buckets .ensures)
+
+  whole :
+      c .fill-buckets .last .1 .1 .0
+      ≡ pieceWords (at-start .args .kind) (at-start .args .raw-path) (at-start .args .count) (at-start .args .noted .now) (pieces at-start) (at-start .args .lookup .now) (at-start .args .left .now) ++ drop 4423 (at-start .args .words .now)
+  whole =
+      let s = at-start in
+      pieces-filled (s .args .kind) (s .args .raw-path) (s .args .count) (s .args .noted .now) (pieces s) (s .args .lookup .now) (s .args .left .now) (s .pre .1 .1 .1 .0) (s .args .words .now) (room s)
+      (crossed started .copy-crossings .last .1 .0) (crossed started .copy-crossings .ensures) (marked started .mark-id .result) (marked started .before .bucket-shift .result) (mark-is (marked started)) (shift-is (marked started))
+      (started .fill-first-bytes .last .1 .1 .1 .0) (started .fill-first-bytes .ensures) (c .fill-buckets .last .1 .1 .0) (c .fill-buckets .ensures)
+
+slice-write-words : tie.Need-slice-write-words
+slice-write-words c = omega (arith, room (start c))
+
+slice-write-words-2 : tie.Need-slice-write-words-2
+slice-write-words-2 c = rw length-set (omega (arith, room (start c)))
+
+slice-write-words-3 : tie.Need-slice-write-words-3
+slice-write-words-3 c = rw (length-set, length-set) (omega (arith, room (start c)))
+
+copy-crossings-requires : tie.Need-copy-crossings-requires
+copy-crossings-requires c κs = rw (length-set, length-set, length-set) (omega (arith, room (start (c .before)), start (c .before) .pre .1 .1 .1 .0))
+
+slice-write-words-4 : tie.Need-slice-write-words-4
+slice-write-words-4 c = omega (arith, long-1 (c .before .before), room (start (c .before .before .before .before)))
+
+slice-write-words-5 : tie.Need-slice-write-words-5
+slice-write-words-5 c = rw length-set (omega (arith, long-1 (c .before .before), room (start (c .before .before .before .before))))
+
+fill-first-bytes-requires : tie.Need-fill-first-bytes-requires
+fill-first-bytes-requires c κs =
+    let s = start (c .before .before .before .before .before) in
+    (s .pre .1 .0, rw (length-set, length-set) (omega (arith, long-1 (c .before .before .before), room s)))
+
+fill-buckets-requires : tie.Need-fill-buckets-requires
+fill-buckets-requires c κs =
+    let s = start (marked (c .before .before .before)) in
+    (s .pre .1 .1 .0, (omega (arith, long-2 (c .before .before .before), room s), marked (c .before .before .before) .before .bucket-shift .ensures .1))
+
+same-length : tie.Need-same-length
+same-length c = long-3 (c .before .before)
+
+returns : tie.Need-returns
+returns c = whole (c .before .before)
+
+pub fill-pieces-spec : {M : Type 1} → statement M
+fill-pieces-spec =
+    tie.close
+    (tie.spec
+    string-count-requires
+    bucket-shift-requires
+    mark-id-requires
+    slice-write-words
+    slice-write-words-2
+    slice-write-words-3
+    copy-crossings-requires
+    slice-write-words-4
+    slice-write-words-5
+    fill-first-bytes-requires
+    fill-buckets-requires
+    same-length
+    returns)
