@@ -13,7 +13,8 @@ use Rattle.utf8.proofs.Tests.{either, clash, and-both, or-left, or-also}
 use Rattle.utf8.proofs.Elements.{any-false-at}
 use Rattle.model.specs.Check.{emptyOrNoText, badToken}
 use Rattle.model.specs.Model.{TokenList, Token, strings, contents, tokenAt}
-use Rattle.sections.specs.inner.Seek.{beginsWith, firstBytes, mayBegin}
+use Rattle.sections.specs.Beginnings.{beginsWith, beginnings}
+use Rattle.sections.specs.inner.Seek.{mayBegin}
 use Rattle.sections.proofs.SeekLaws.{Sound, first-sound}
 use Rattle.fragments.specs.Safe.{blocks}
 use Rattle.fragments.specs.inner.Most.{most}
@@ -108,7 +109,7 @@ module _ (unguarded strip : Bool) (bytes offsets : List ℕ) (lstrip rstrip : Li
 
 -- ---- bytes that no content begins with
 
-pub sound-by : (begins : List ℕ) (contents : List (List ℕ)) (n : ℕ) → begins ≡ firstBytes contents n → Sound begins contents
+pub sound-by : (begins : List ℕ) (contents : List (List ℕ)) (n : ℕ) → begins ≡ beginnings contents n → Sound begins contents
 sound-by begins contents n e = rw e (first-sound contents n)
 
 module _ (t : TokenList) (text : List ℕ) (begins : List ℕ) (sound : Sound begins (contents t)) (fine : badToken (contents t) ≡ false) (s : ℕ) where

@@ -15,7 +15,7 @@ ghost use lib.ListN.{length};
 ghost use Rattle.utf8.specs.Lists.{find};
 ghost use Rattle.model.specs.Model.{contents};
 ghost use Rattle.model.specs.inner.Search.{foundId};
-ghost use Rattle.sections.specs.inner.Seek.{firstBytes};
+ghost use Rattle.sections.specs.Beginnings.{beginnings};
 ghost use Rattle.fragments.specs.inner.Reach.{tokensOf, Fine, stripsAt, placesAhead};
 
 // Whether a token with lstrip stands at `s`.
@@ -47,7 +47,7 @@ fn strips_here(
     text: &[u8],
     s: usize,
 ) -> bool
-    requires { ⌜ now begins ≡ firstBytes (contents (tokensOf (now bytes) (now offsets) (now lstrip) [])) (length (now begins)) ⌝ }
+    requires { ⌜ now begins ≡ beginnings (contents (tokensOf (now bytes) (now offsets) (now lstrip) [])) (length (now begins)) ⌝ }
     requires { ⌜ Fine (tokensOf (now bytes) (now offsets) (now lstrip) []) (now text) ⌝ }
     ensures { λ r. ⌜ r ≡ stripsAt (tokensOf (now (bytes .entry)) (now (offsets .entry)) (now (lstrip .entry)) []) (now (text .entry)) s ⌝ }
 {
@@ -70,7 +70,7 @@ pub fn strip_ahead(
     p: usize,
 ) -> Found
     requires { ⌜ p ≤ length (now text) ⌝ }
-    requires { ⌜ now begins ≡ firstBytes (contents (tokensOf (now bytes) (now offsets) (now lstrip) [])) (length (now begins)) ⌝ }
+    requires { ⌜ now begins ≡ beginnings (contents (tokensOf (now bytes) (now offsets) (now lstrip) [])) (length (now begins)) ⌝ }
     requires { ⌜ Fine (tokensOf (now bytes) (now offsets) (now lstrip) []) (now text) ⌝ }
     ensures { λ r. ⌜ foundId r ≡ find (stripsAt (tokensOf (now (bytes .entry)) (now (offsets .entry)) (now (lstrip .entry)) []) (now (text .entry))) (placesAhead (now (text .entry)) p) ⌝ }
 {

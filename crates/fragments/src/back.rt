@@ -9,7 +9,7 @@ ghost use Prim.Native.Nat.{_-_, _≤_, max};
 ghost use lib.Dec.{leb};
 ghost use lib.ListN.{length};
 ghost use Rattle.model.specs.Model.{contents};
-ghost use Rattle.sections.specs.inner.Seek.{firstBytes};
+ghost use Rattle.sections.specs.Beginnings.{beginnings};
 ghost use Rattle.fragments.specs.inner.Reach.{tokensOf, Edge, Fine, Longest, plainFar, stripFar, furthest, reach};
 
 // The place `longest` before `stop`, but no further back than `at`.
@@ -83,7 +83,7 @@ pub fn look_back(
 ) -> usize
     requires { ⌜ (at ≤ p) × (p ≤ length (now text)) ⌝ }
     requires { ⌜ Edge (now text) at × Edge (now text) p ⌝ }
-    requires { ⌜ now begins ≡ firstBytes (contents (tokensOf (now bytes) (now offsets) (now lstrip) (now rstrip))) (length (now begins)) ⌝ }
+    requires { ⌜ now begins ≡ beginnings (contents (tokensOf (now bytes) (now offsets) (now lstrip) (now rstrip))) (length (now begins)) ⌝ }
     requires { ⌜ Longest (tokensOf (now bytes) (now offsets) (now lstrip) (now rstrip)) longest ⌝ }
     requires { ⌜ Fine (tokensOf (now bytes) (now offsets) (now lstrip) (now rstrip)) (now text) ⌝ }
     ensures { λ r. ⌜ r ≡ cond (leb p (reach unguarded (tokensOf (now (bytes .entry)) (now (offsets .entry)) (now (lstrip .entry)) (now (rstrip .entry))) (now (text .entry)) at p)) (reach unguarded (tokensOf (now (bytes .entry)) (now (offsets .entry)) (now (lstrip .entry)) (now (rstrip .entry))) (now (text .entry)) at p) 0 ⌝ }

@@ -13,7 +13,7 @@ ghost use lib.ListN.{length};
 ghost use Rattle.utf8.specs.Lists.{any};
 ghost use Rattle.model.specs.Check.{badToken};
 ghost use Rattle.model.specs.Model.{contents};
-ghost use Rattle.sections.specs.inner.Seek.{firstBytes};
+ghost use Rattle.sections.specs.Beginnings.{beginnings};
 ghost use Rattle.fragments.specs.Safe.{blocks};
 ghost use Rattle.fragments.specs.inner.Reach.{tokensOf, isAs, endOf, endAt, endBetween};
 
@@ -146,7 +146,7 @@ pub fn end_between(
     to: usize,
 ) -> usize
     requires { ⌜ to ≤ length (now text) ⌝ }
-    requires { ⌜ now begins ≡ firstBytes (contents (tokensOf (now bytes) (now offsets) (now lstrip) (now rstrip))) (length (now begins)) ⌝ }
+    requires { ⌜ now begins ≡ beginnings (contents (tokensOf (now bytes) (now offsets) (now lstrip) (now rstrip))) (length (now begins)) ⌝ }
     requires { ⌜ badToken (contents (tokensOf (now bytes) (now offsets) (now lstrip) (now rstrip))) ≡ false ⌝ }
     ensures { λ r. ⌜ r ≡ endBetween unguarded (tokensOf (now (bytes .entry)) (now (offsets .entry)) (now (lstrip .entry)) (now (rstrip .entry))) (now (text .entry)) strip from to ⌝ }
 {

@@ -11,7 +11,7 @@ use Rattle.model.specs.Model.{TokenList, contents}
 use Rattle.units.specs.Kinds.{Crossing}
 use Rattle.units.specs.Units.{markCuts}
 use Rattle.units.specs.declared.WordSplit.{WordSplit}
-use Rattle.sections.specs.inner.Seek.{firstBytes}
+use Rattle.sections.specs.Beginnings.{beginnings}
 use Rattle.fragments.specs.inner.Reach.{Edge, Fine, Longest, blockedAhead, blockedIn, reach}
 use Rattle.fragments.specs.declared.Verdict.{Verdict}
 use Rattle.fragments.specs.declared.Verdict.the-variants.{Blocked, Free}
@@ -32,7 +32,7 @@ safeIn kind noted unguarded t text p = ltb 0 p && markCuts kind noted true text 
 -- What is given with the tokens of a list: for each byte whether a content begins with it, and how long contents are at most.
 pub record Given (t : TokenList) (begins : List ℕ) (longest : ℕ) (text : List ℕ) : Type 0 where
   pub fine : Fine t text
-  pub first : begins ≡ firstBytes (contents t) (length begins)
+  pub first : begins ≡ beginnings (contents t) (length begins)
   pub long : Longest t longest
 
 -- Before p: no block of what stands before the place at reaches p, and from at up to ahead no place has a token ahead.

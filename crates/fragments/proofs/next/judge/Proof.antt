@@ -10,7 +10,7 @@ use lib.ListN.{length}
 use Rattle.utf8.specs.Lists.{find}
 use Rattle.model.specs.Model.{TokenList}
 use Rattle.model.specs.inner.Search.{foundId}
-use Rattle.sections.specs.inner.Seek.{firstBytes}
+use Rattle.sections.specs.Beginnings.{beginnings}
 use Rattle.sections.specs.inner.Strips.{startAt}
 use Rattle.fragments.specs.inner.Reach.{tokensOf, placesAhead, stripsAt, reach}
 use Rattle.fragments.proofs.WhiteLaws.{whiteEnd-le}
@@ -63,7 +63,7 @@ strip-ahead-requires c κs = let k = c .before .before .before in
     let s = start k in
     let a = s .args in
     let g = s .pre .1 .1 .0 in
-    (omega (arith, s .pre .0 .1), (g .first ∙ ap (λ (l : List (List ℕ)). firstBytes l (length (a .begins .now))) (sym (contents-left (a .bytes .now) (a .offsets .now) (a .lstrip .now) (a .rstrip .now) (text k))), fine-left (a .bytes .now) (a .offsets .now) (a .lstrip .now) (a .rstrip .now) (text k) (g .fine)))
+    (omega (arith, s .pre .0 .1), (g .first ∙ ap (λ (l : List (List ℕ)). beginnings l (length (a .begins .now))) (sym (contents-left (a .bytes .now) (a .offsets .now) (a .lstrip .now) (a .rstrip .now) (text k))), fine-left (a .bytes .now) (a .offsets .now) (a .lstrip .now) (a .rstrip .now) (text k) (g .fine)))
 
 enum-known-s : tie.Need-enum-known-s
 enum-known-s c = search needs
