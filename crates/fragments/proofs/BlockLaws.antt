@@ -29,7 +29,7 @@ use Rattle.fragments.proofs.WhiteLaws.{trimmed, whiteEnd, trimmed-le, w
 
 -- ---- where a content stands
 
-valid-edge : (u : List ℕ) → valid u ≡ true → hasForm (tail ∷ []) u ≡ false
+pub valid-edge : (u : List ℕ) → valid u ≡ true → hasForm (tail ∷ []) u ≡ false
 valid-edge [] v = refl
 valid-edge (b ∷ u) v = valid-starts (b ∷ u) (omega arith) v
 

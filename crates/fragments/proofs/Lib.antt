@@ -8,3 +8,5 @@ pub mod AheadLaws
 pub mod FirstLaws
 pub mod SearchLaws
 pub mod CutLaws
+pub mod RangeLaws
+pub mod PassLaws

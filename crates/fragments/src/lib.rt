@@ -4,6 +4,7 @@ mod ahead;
 mod back;
 mod ends;
 mod next;
+mod ranges;
 
 // Whether a place is blocked.
 pub(crate) enum Verdict {

@@ -2,16 +2,17 @@
 use Prim.Native.Nat.{ℕ, _-_, _≤_, _<_}
 use mathlib.Core.Path.{_≡_}
 use mathlib.Core.Bool.{Bool, true, false, not, _&&_}
-use mathlib.Core.List.{List}
+use mathlib.Core.List.{List, [], _∷_, _++_}
 use mathlib.Core.Option.{Option, none, some}
 use lib.Dec.{ltb}
 use lib.ListN.{length}
-use Rattle.utf8.specs.Lists.{find, countFrom}
+use Rattle.utf8.specs.Lists.{find, filter, neighbours, joinMap, below, countFrom}
 use Rattle.model.specs.Model.{TokenList, contents}
 use Rattle.units.specs.Kinds.{Crossing}
 use Rattle.units.specs.Units.{markCuts}
 use Rattle.units.specs.declared.WordSplit.{WordSplit}
 use Rattle.sections.specs.Beginnings.{beginnings}
+use Rattle.fragments.specs.Fragments.{cutsFrom}
 use Rattle.fragments.specs.inner.Reach.{Edge, Fine, Longest, blockedAhead, blockedIn, reach}
 use Rattle.fragments.specs.declared.Verdict.{Verdict}
 use Rattle.fragments.specs.declared.Verdict.the-variants.{Blocked, Free}
@@ -63,3 +64,11 @@ Judged unguarded t text p (Free ahead) = FreeAt unguarded t text p ahead
 pub record NextCut (kind : WordSplit) (noted : List Crossing) (unguarded : Bool) (t : TokenList) (text : List ℕ) (from : ℕ) (cut : Cut) : Type 0 where
   pub is : cut .place ≡ firstFrom (safeIn kind noted unguarded t text) (length text) from
   pub known : cut .place < length text → Known unguarded t text (cut .place) (cut .ahead) (cut .place)
+
+-- The cuts of n places, by which of them are safe and how far one is from the last at least.
+unfoldable pub cutsIn : (ℕ → Bool) → ℕ → ℕ → List ℕ
+cutsIn safe n step = cutsFrom step 0 (filter safe (below n))
+
+-- The starts and ends of the ranges between such cuts.
+unfoldable pub numbersIn : (ℕ → Bool) → ℕ → ℕ → List ℕ
+numbersIn safe n step = joinMap (λ (r : ℕ × ℕ). r .0 ∷ r .1 ∷ []) (neighbours (0 ∷ cutsIn safe n step ++ (n ∷ [])))
