@@ -4,9 +4,9 @@
     tools/spec_cases.py FILE [--jobs 2] [--explain 5]
 
 FILE has a line for each model: {"model": {columns}, "calls": [..]}. Bytes are hex. A call has its op (check, normalise,
-encode, fragments, decode), its input, room (the result buffer's length) and, where it has scratch, the two lengths; then
+encode, fragments, decode, prepare), its input, room (the result buffer's length) and, where it has scratch, the two lengths; then
 answer = [number, place, written, drops, skips], out and scratch_after. Before a call every result cell is 9 and every
-scratch byte is 5.
+scratch byte is 5. Of prepare the index is the result and adjacency the first scratch; {"runs": [[word, times], ..]} is a row of words.
 
 Each case becomes one equation that the prover computes, in a repository of its own outside this one. A case that differs
 is named by its line and its call (both counted from 1), with what the definitions give in the place of what FILE says. Cases
@@ -39,7 +39,7 @@ use Rattle.model.specs.declared.Step.the-variants.{Prepend, Replace, CollapseSp
 use Rattle.model.specs.declared.Metaspace.{Metaspace}
 use Rattle.model.specs.declared.Metaspace.the-variants.{Absent, Present}
 use Rattle.model.specs.declared.PrependScheme.the-variants as scheme
-use Rattle.theorems.specs.Cases.{Call, check, normalise, encode, fragments, decode, Lent, Case, Left, left, agrees}
+use Rattle.theorems.specs.Cases.{Call, check, normalise, encode, fragments, decode, prepare, Lent, Case, Left, left, agrees}
 
 """
 
@@ -129,6 +129,8 @@ def model_text(m):
 
 
 def cells(value):
+    if isinstance(value, dict):
+        return [word for word, times in value["runs"] for _ in range(times)]
     return list(bytes.fromhex(value)) if isinstance(value, str) else value
 
 
@@ -143,8 +145,8 @@ class One:
     def __init__(self, line, number, model, call):
         self.line, self.number, self.model, self.op = line, number, model, call["op"]
         self.name = f"case-{line}-{number}"
-        if self.op == "check":
-            self.call = "check"
+        if self.op in ("check", "prepare"):
+            self.call = self.op
         elif self.op == "normalise":
             self.call = f"(normalise {octets(call['text'])} {flag(call['first'])})"
         elif self.op == "encode":

@@ -10,7 +10,6 @@ use lib.Dec.{ltb}
 use lib.ListN.{length, take, length-append, length-take, length-replicate}
 use Rattle.utf8.specs.Lists.{joinMap, sum}
 use Rattle.utf8.proofs.Tests.{either}
-use Rattle.utf8.proofs.Fronts.{length-row}
 use Rattle.model.specs.Answers.{zeros, done, refused, filled, placeOf, Outcome, outcome}
 use Rattle.model.specs.Check.{checkNumber}
 use Rattle.model.specs.Model.{Model, TokenList}
@@ -22,8 +21,8 @@ use Rattle.units.proofs.AdjacencyLaws.{Small}
 use Rattle.merge.specs.inner.Turns.{Merged}
 use Rattle.merge.specs.declared.Symbols.{Symbols}
 use Rattle.normalise.specs.Normalise.{outgrows}
+use Rattle.prepare.specs.Prepare.{derivedAdjacency, derivedIndex}
 use Rattle.sections.specs.Sections.{Item, takenApart, sections}
-use Rattle.sections.specs.Beginnings.{beginnings}
 use Rattle.encode.specs.declared.Counted.{Counted}
 use Rattle.encode.specs.declared.Counted.the-variants.{Counts, TooLong}
 use Rattle.encode.specs.Parts.{Stretch, rawStretch, stretchesOf, parts}
@@ -34,11 +33,6 @@ use Rattle.encode.proofs.WriterLaws.{Each}
 use Rattle.encode.proofs.PassLaws.{keeps-parts}
 use Rattle.encode.proofs.ItemLaws.{counts-found, long-found}
 use Rattle.encode.proofs.DerivedLaws.{tablesOf, OfBytes, raw-bytes, parts-counted, parts-written}
-
--- A row of first bytes knows its own length.
-pub begins-own : (contents : List (List ℕ)) {row : List ℕ} (n : ℕ) → row ≡ beginnings contents n → row ≡ beginnings contents (length row)
-unfolding beginnings
-begins-own contents n e = e ∙ ap (beginnings contents) (sym (ap length e ∙ length-row _ n))
 
 module _ (t : Tables) (parts : List (Item Stretch)) (out : List ℕ) where
   module _ {s : Symbols} (counted : s ≡ partsSymbols (ownIn (t .index) (t .pieceBytes) (t .pieceOffsets) (t .lookup)) (t .fallback) parts (length out + 1)) where
@@ -121,3 +115,25 @@ pub raw-meant : (m : Model) → checkNumber m ≡ 0 → (prepend : RawPrepend) �
 unfolding startingCount encodedIds drops parts stretchesOf
 raw-meant m fine prepend e continuation text small out =
     rw e (outcome-meant m fine (takenApart (rawStretch prepend continuation text) (sections (m .first) text)) (raw-bytes prepend continuation text small (sections (m .first) text)) text out)
+
+-- The same where the two rows are lent.
+module _ (m : Model) {adjacency index : List ℕ} (rows : adjacency ≡ derivedAdjacency m) (is : index ≡ derivedIndex m) where
+  abbrev pub lentTables : Tables
+  lentTables = record {
+    adjacency = adjacency;
+    index = index;
+    pieceBytes = m .pieceBytes;
+    pieceOffsets = m .pieceOffsets;
+    lookup = m .lookup;
+    fallback = m .fallback;
+    left = m .left;
+    right = m .right;
+    result = m .result;
+    rank = m .rank;
+  }
+
+  pub raw-lent : (parts : List (Item Stretch)) (out : List ℕ) → partsOutcome lentTables parts out ≡ partsOutcome (tablesOf m) parts out
+  raw-lent parts out = rw (rows, is)
+
+  pub normal-lent : (n : Normal) (first : TokenList) (text : List ℕ) (room : ℕ) (out : List ℕ) → normalOutcome lentTables n first text room out ≡ normalOutcome (tablesOf m) n first text room out
+  normal-lent n first text room out = rw (rows, is)

@@ -101,6 +101,8 @@ pub const BAD_STEP: u32 = 8;
 
 pub const BAD_TEXT: u32 = 9;
 
+pub const NO_RAW_PATH: u32 = 10;
+
 pub const SCRATCH_TOO_SHORT: u32 = 11;
 
 pub const RESULT_TOO_SHORT: u32 = 12;

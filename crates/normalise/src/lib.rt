@@ -2,7 +2,7 @@
 
 mod collapse;
 mod copy;
-mod finish;
+pub mod finish;
 mod fit;
 pub mod metaspace;
 mod prefix;

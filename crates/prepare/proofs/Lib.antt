@@ -4,3 +4,4 @@ pub mod LayoutLaws
 pub mod PutLaws
 pub mod PrepareLaws
 pub mod ReadLaws
+pub mod PreparedLaws

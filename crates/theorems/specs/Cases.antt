@@ -15,11 +15,18 @@ use Rattle.normalise.specs.Spaces
 use Rattle.normalise.specs.Normalise
 use Rattle.units.specs.Kinds
 use Rattle.units.specs.Units
+use Rattle.units.specs.Adjacency
+use Rattle.units.specs.Derived
+use Rattle.index.specs.Index
 use Rattle.merge.specs.Start
 use Rattle.merge.specs.Merge
 use Rattle.sections.specs.Matches
 use Rattle.sections.specs.Sections
 use Rattle.sections.specs.SecondList
+use Rattle.sections.specs.Beginnings
+use Rattle.prepare.specs.Numbers
+use Rattle.prepare.specs.Layout
+use Rattle.prepare.specs.Prepare
 use Rattle.encode.specs.Parts
 use Rattle.encode.specs.Encode
 use Rattle.fragments.specs.Safe
@@ -31,6 +38,7 @@ use Rattle.model.specs.Answers.{Outcome, ScratchOutcome}
 use Rattle.model.specs.Check.{checkOutcome}
 use Rattle.model.specs.declared.Answer.{Answer}
 use Rattle.normalise.specs.Normalise.{normaliseOutcome}
+use Rattle.prepare.specs.Prepare.{PrepareOutcome, prepareOutcome}
 use Rattle.encode.specs.Encode.{encodeOutcome}
 use Rattle.fragments.specs.Fragments.{fragmentsOutcome}
 use Rattle.decode.specs.Decode.{decodeOutcome}
@@ -42,8 +50,10 @@ pub data Call : Type 0 where
   encode : List ℕ → Bool → Call
   fragments : List ℕ → ℕ → Call
   decode : List ℕ → Call
+  prepare : Call
 
--- The cells that a call is lent; a call that takes no such buffer has it empty.
+-- The cells that a call is lent; a call that takes no such buffer has it empty. Prepare is lent the index as out, and the adjacency rows as
+-- scratchA.
 pub record Lent : Type 0 where
   pub out : List ℕ
   pub scratchA : List ℕ
@@ -67,12 +77,16 @@ withoutScratch o = record { answer = o .answer; after = record { out = o .out; s
 unfoldable pub withBoth : ScratchOutcome → Left
 withBoth o = record { answer = o .answer; after = record { out = o .out; scratchA = o .scratchA; scratchB = o .scratchB } }
 
+unfoldable pub withRows : PrepareOutcome → Left
+withRows o = record { answer = o .answer; after = record { out = o .index; scratchA = o .adjacency; scratchB = [] } }
+
 unfoldable pub left : Model → Call → Lent → Left
 left m check lent = record { answer = checkOutcome m; after = lent }
 left m (normalise text first) lent = withBoth (normaliseOutcome m text first (lent .out) (lent .scratchA) (lent .scratchB))
 left m (encode text continuation) lent = withBoth (encodeOutcome m text continuation (lent .out) (lent .scratchA) (lent .scratchB))
 left m (fragments text target) lent = withoutScratch (fragmentsOutcome m text target (lent .out))
 left m (decode ids) lent = withoutScratch (decodeOutcome m ids (lent .out))
+left m prepare lent = withRows (prepareOutcome m (lent .scratchA) (lent .out))
 
 unfoldable pub sameAnswer : Answer → Answer → Bool
 sameAnswer a b =
@@ -98,17 +112,24 @@ unfolding Chars.charForms Chars.charWidth Chars.chars Chars.isChar Chars.valid C
     Normalise.normalised Normalise.outgrows Normalise.normaliseOutputs Normalise.normaliseNumber Normalise.normaliseOutcome
     Kinds.crossesAt Kinds.crossingAt Kinds.crossingsOf Kinds.crossings Kinds.holdsMark Kinds.isTangled Kinds.splits Kinds.wordSplit Kinds.kindOf Kinds.isPrependMark Kinds.isSpaceReplace Kinds.isPresent Kinds.prependOf Kinds.rawPathOf Kinds.isNone Kinds.rawPath Kinds.hasRawPath
     Units.spanned Units.markCuts Units.punctuation Units.holdsPair Units.byteBefore Units.punctuationCuts Units.cutBy Units.cut Units.units
+    Adjacency.bits Adjacency.adjacencyWord Adjacency.adjacency
+    Derived.placesWithin Derived.placesIn Derived.crossingPlaces Derived.notedOf Derived.placeWords Derived.notedWords Derived.noting
+    Index.firstByteStart Index.firstBytes Index.markId Index.bucketShift Index.bucketStart Index.buckets
     Start.vocabularyOf Start.ownId Start.fallbackIds Start.lacksByte Start.startingIdsBy Start.startingIds Start.isDroppedBy Start.isDropped Start.asMark Start.unitChars Start.withVirtualMark
     Merge.candidates Merge.nextMerge Merge.mergedAt Merge.merged
     Matches.end Matches.longestAt Matches.matches
     Sections.stopBefore Sections.whiteLength Sections.startAfter Sections.bytesOf Sections.sectionOf Sections.isSwallowed Sections.sections
     SecondList.normalPartOf SecondList.normalParts
+    Beginnings.beginnings Beginnings.longestContent
+    Numbers.kindNumber Numbers.rawPathNumber
+    Layout.pieceWords Layout.tokenWords Layout.indexRow
+    Prepare.derivedAdjacency Prepare.derivedIndex Prepare.prepareNumber Prepare.prepareOutcome
     Parts.prependsMark Parts.virtualMark Parts.stretch Parts.rawStretch Parts.normalStretch Parts.normalPartsOf Parts.stretchesOf Parts.parts
     Encode.stretchUnits Encode.unitIds Encode.idsOf Encode.encodedIds Encode.dropsOf Encode.drops Encode.startsOf Encode.startingCount Encode.metaspaceOutputOf Encode.sectionOutputs Encode.encodeOutputs Encode.encodeNumber Encode.encodeOutcome
     Safe.isUnguarded Safe.blocks Safe.blockStart Safe.blockEnd Safe.block Safe.blockedBy Safe.isBlocked Safe.isSafe
     Fragments.cuts Fragments.ranges Fragments.rangeNumbers Fragments.fragmentsNumber Fragments.fragmentsOutcome
     Decode.hasPiece Decode.joinedBytes Decode.skips Decode.replacement Decode.straysReplaced Decode.marksSpaced Decode.prependsMark Decode.isPrepend Decode.prependsSpace Decode.leadingSpaceGone Decode.decodedBytes Decode.decodeNumber Decode.decodeOutcome
-    withoutScratch withBoth left sameAnswer sameLent
+    withoutScratch withBoth withRows left sameAnswer sameLent
 agrees c =
     let l = left (c .model) (c .call) (c .before) in
     sameAnswer (l .answer) (c .answer) && sameLent (l .after) (c .after)
