@@ -10,3 +10,4 @@ pub mod SearchLaws
 pub mod CutLaws
 pub mod RangeLaws
 pub mod PassLaws
+pub mod FinishLaws

@@ -3,8 +3,10 @@
 mod ahead;
 mod back;
 mod ends;
+mod finish;
 mod next;
 mod ranges;
+mod raw;
 
 // Whether a place is blocked.
 pub(crate) enum Verdict {

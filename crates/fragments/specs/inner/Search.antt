@@ -1,12 +1,13 @@
 -- The search for the next safe place, and what is known while it goes on.
 use Prim.Native.Nat.{ℕ, _-_, _≤_, _<_}
 use mathlib.Core.Path.{_≡_}
-use mathlib.Core.Bool.{Bool, true, false, not, _&&_}
+use mathlib.Core.Bool.{Bool, true, false, not, cond, _&&_}
 use mathlib.Core.List.{List, [], _∷_, _++_}
 use mathlib.Core.Option.{Option, none, some}
 use lib.Dec.{ltb}
 use lib.ListN.{length}
 use Rattle.utf8.specs.Lists.{find, filter, neighbours, joinMap, below, countFrom}
+use Rattle.model.specs.Answers.{Outcome, outcome, done}
 use Rattle.model.specs.Model.{TokenList, contents}
 use Rattle.units.specs.Kinds.{Crossing}
 use Rattle.units.specs.Units.{markCuts}
@@ -72,3 +73,7 @@ cutsIn safe n step = cutsFrom step 0 (filter safe (below n))
 -- The starts and ends of the ranges between such cuts.
 unfoldable pub numbersIn : (ℕ → Bool) → ℕ → ℕ → List ℕ
 numbersIn safe n step = joinMap (λ (r : ℕ × ℕ). r .0 ∷ r .1 ∷ []) (neighbours (0 ∷ cutsIn safe n step ++ (n ∷ [])))
+
+-- Such numbers as a call leaves them: 12 where there is no room for them.
+unfoldable pub rangesOutcome : List ℕ → List ℕ → Outcome
+rangesOutcome numbers out = outcome (cond (ltb (length out) (length numbers)) 12 0) 0 (done (length numbers) 0 0) numbers out
