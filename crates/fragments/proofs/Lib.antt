@@ -11,3 +11,4 @@ pub mod CutLaws
 pub mod RangeLaws
 pub mod PassLaws
 pub mod FinishLaws
+pub mod FragmentLaws
