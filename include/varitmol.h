@@ -187,6 +187,76 @@ varitmol_answer varitmol_prepare(
     uint64_t *adjacency, size_t adjacency_len,
     uint32_t *index, size_t index_len);
 
+/* The ids of a text. continuation says that the text goes on from an earlier one, so that its opening section gets no virtual mark; it
+ * needs a model with a raw path (10). 11 if something that steps or metaspace put out does not fit into the shorter scratch buffer, never
+ * on the raw path. 12 if out has fewer cells than there are starting ids and tokens. Those are the ids before merging, so out may have
+ * to be longer than what is written. After 0 out holds the ids and then zeros, written counts the ids, and drops counts the
+ * characters that have no id. */
+varitmol_answer varitmol_encode(
+
+    const uint8_t *piece_bytes, size_t piece_bytes_len,
+    const uint32_t *piece_offsets, size_t piece_offsets_len,
+    const uint32_t *lookup, size_t lookup_len,
+    const uint32_t *fallback, size_t fallback_len,
+    const uint32_t *left, size_t left_len,
+    const uint32_t *right, size_t right_len,
+    const uint32_t *result, size_t result_len,
+    const uint32_t *rank, size_t rank_len,
+    const uint8_t *first_bytes, size_t first_bytes_len,
+    const uint32_t *first_offsets, size_t first_offsets_len,
+    const uint32_t *first_ids, size_t first_ids_len,
+    const bool *first_lstrip, size_t first_lstrip_len,
+    const bool *first_rstrip, size_t first_rstrip_len,
+    const uint8_t *second_bytes, size_t second_bytes_len,
+    const uint32_t *second_offsets, size_t second_offsets_len,
+    const uint32_t *second_ids, size_t second_ids_len,
+    const bool *second_lstrip, size_t second_lstrip_len,
+    const bool *second_rstrip, size_t second_rstrip_len,
+    const uint8_t *step_bytes, size_t step_bytes_len,
+    const uint8_t *step_kinds, size_t step_kinds_len,
+    const uint32_t *step_spans, size_t step_spans_len,
+    uint8_t metaspace, uint8_t split,
+    const uint8_t *text, size_t text_len,
+    bool continuation,
+    uint32_t *out, size_t out_len,
+    uint8_t *scratch_a, size_t scratch_a_len,
+    uint8_t *scratch_b, size_t scratch_b_len);
+
+/* The same without the check and without what varitmol_prepare derives, for whoever encodes many texts with one model. The caller's
+ * duty: varitmol_check answers 0 for the model, and adjacency and index are exactly VARITMOL_ADJACENCY_LEN and VARITMOL_INDEX_LEN
+ * words long and hold what varitmol_prepare wrote for this same model. Without that the call may do anything. */
+varitmol_answer varitmol_encode_prepared(
+
+    const uint8_t *piece_bytes, size_t piece_bytes_len,
+    const uint32_t *piece_offsets, size_t piece_offsets_len,
+    const uint32_t *lookup, size_t lookup_len,
+    const uint32_t *fallback, size_t fallback_len,
+    const uint32_t *left, size_t left_len,
+    const uint32_t *right, size_t right_len,
+    const uint32_t *result, size_t result_len,
+    const uint32_t *rank, size_t rank_len,
+    const uint8_t *first_bytes, size_t first_bytes_len,
+    const uint32_t *first_offsets, size_t first_offsets_len,
+    const uint32_t *first_ids, size_t first_ids_len,
+    const bool *first_lstrip, size_t first_lstrip_len,
+    const bool *first_rstrip, size_t first_rstrip_len,
+    const uint8_t *second_bytes, size_t second_bytes_len,
+    const uint32_t *second_offsets, size_t second_offsets_len,
+    const uint32_t *second_ids, size_t second_ids_len,
+    const bool *second_lstrip, size_t second_lstrip_len,
+    const bool *second_rstrip, size_t second_rstrip_len,
+    const uint8_t *step_bytes, size_t step_bytes_len,
+    const uint8_t *step_kinds, size_t step_kinds_len,
+    const uint32_t *step_spans, size_t step_spans_len,
+    uint8_t metaspace, uint8_t split,
+    const uint64_t *adjacency, size_t adjacency_len,
+    const uint32_t *index, size_t index_len,
+    const uint8_t *text, size_t text_len,
+    bool continuation,
+    uint32_t *out, size_t out_len,
+    uint8_t *scratch_a, size_t scratch_a_len,
+    uint8_t *scratch_b, size_t scratch_b_len);
+
 #ifdef __cplusplus
 }
 #endif

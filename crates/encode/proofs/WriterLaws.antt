@@ -185,6 +185,10 @@ pub each : {A : Type 0} {P : A → Type 0} → ((x : A) → P x) → (xs : List 
 each all [] = none-left
 each all (x ∷ xs) = one-more (all x) (each all xs)
 
+pub each-append : {A : Type 0} {P : A → Type 0} {xs ys : List A} → Each P xs → Each P ys → Each P (xs ++ ys)
+each-append none-left qs = qs
+each-append (one-more p ps) qs = one-more p (each-append ps qs)
+
 module _ {A : Type 0} (write : A → Writer) where
   pub keeps-all : ((x : A) → Keeps (write x)) → (xs : List A) → Keeps (inTurn (map write xs))
   unfolding inTurn thenWrites
