@@ -1,9 +1,11 @@
 // The toy models of rules 14.1 and 14.2, run. Writes a line for each call: what it was given, and what it answered.
 mod checks;
+mod encoding;
 mod normalising;
 mod tables;
 
 fn main() {
     checks::run();
     normalising::run();
+    encoding::run();
 }

@@ -19,7 +19,7 @@ const BEFORE: u8 = 0xEE;
 // The longest buffer that is lent.
 const ROOM: usize = 8;
 
-fn tell_bytes(bytes: &[u8]) {
+pub(crate) fn tell_bytes(bytes: &[u8]) {
     let mut i = 0;
     while i < bytes.len() {
         io::write_all(1, b" ");

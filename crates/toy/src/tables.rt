@@ -67,6 +67,36 @@ pub(crate) const RESULT_U: [u32; 3] = [4, 3, 8];
 
 pub(crate) const RANK_U: [u32; 3] = [1, 0, 2];
 
+// U's pieces, the last of them 33 times.
+pub(crate) fn crossed_pieces() -> [u8; 179] {
+    let mut pieces = [0u8; 179];
+    let mut i = 0;
+    while i < 179 {
+        if i < 14 {
+            pieces[i] = PIECES_U[i];
+        } else {
+            pieces[i] = PIECES_U[14 + (i + 1) % 5];
+        }
+        i += 1;
+    }
+    pieces
+}
+
+// Where those pieces begin, and the end of the last.
+pub(crate) fn crossed_offsets() -> [u32; 42] {
+    let mut offsets = [0u32; 42];
+    let mut i = 0;
+    while i < 42 {
+        if i < 9 {
+            offsets[i] = OFFSETS_U[i];
+        } else {
+            offsets[i] = (5 * i - 26) as u32;
+        }
+        i += 1;
+    }
+    offsets
+}
+
 // The token `<n>`.
 pub(crate) const TOKEN: [u8; 3] = [0x3C, 0x6E, 0x3E];
 
