@@ -2,14 +2,14 @@
 use Prim.Native.Nat.{ℕ, _+_, _≤_, _<_}
 use native.Mathlib.Omega.{arith}
 use mathlib.Core.Path.{_≡_, refl, sym, ap, _∙_}
-use mathlib.Core.Bool.{Bool, true, false}
+use mathlib.Core.Bool.{Bool, true}
 use mathlib.Core.List.{List}
 use lib.ListN.{length}
 use Rattle.model.specs.Model.{TokenList}
 use Rattle.units.specs.Kinds.{Crossing}
 use Rattle.units.specs.Units.{markCuts}
 use Rattle.units.specs.declared.WordSplit.{WordSplit}
-use Rattle.fragments.specs.inner.Reach.{Edge, blockedIn}
+use Rattle.fragments.specs.inner.Reach.{Edge}
 use Rattle.fragments.specs.inner.Search.{firstFrom, safeIn, Known, BlockedTo, FreeAt, NextCut}
 use Rattle.fragments.specs.declared.Cut.{Cut}
 use Rattle.fragments.proofs.FirstLaws.{First, first-at, first-found, first-ended, first-skip, first-narrow, cuts-edge, safe-mark, safe-blocked, safe-free}

@@ -1,15 +1,14 @@
 -- Where tokens that block end, by the columns of their list; and bytes that no content begins with. Assumes nothing.
-use Prim.Native.Nat.{ℕ, suc, _+_, _-_, _≤_, _<_, max}
+use Prim.Native.Nat.{ℕ, suc, _+_, _-_, _<_}
 use native.Mathlib.Omega.{arith}
 use mathlib.Core.Path.{_≡_, refl, sym, ap, ap₂, _∙_}
-use mathlib.Core.Bool.{Bool, true, false, not, cond, _&&_, _||_}
-use mathlib.Core.Logic.{⊎-elim}
+use mathlib.Core.Bool.{Bool, true, false, cond, _&&_, _||_}
 use mathlib.Core.List.{List, [], _∷_}
 use lib.Dec.{eqb}
 use lib.ListN.{length, drop, getD}
 use lib.Seq.{slice, take-length, drop-cons}
-use Rattle.utf8.specs.Lists.{isEmpty, any, below, startsWith}
-use Rattle.utf8.proofs.Tests.{either, clash, and-both, or-left, or-also}
+use Rattle.utf8.specs.Lists.{isEmpty, any, startsWith}
+use Rattle.utf8.proofs.Tests.{clash, and-both, or-left, or-also}
 use Rattle.utf8.proofs.Elements.{any-false-at}
 use Rattle.model.specs.Check.{emptyOrNoText, badToken}
 use Rattle.model.specs.Model.{TokenList, Token, strings, contents, tokenAt}
@@ -17,7 +16,6 @@ use Rattle.sections.specs.Beginnings.{beginsWith, beginnings}
 use Rattle.sections.specs.inner.Seek.{mayBegin}
 use Rattle.sections.proofs.SeekLaws.{Sound, first-sound}
 use Rattle.fragments.specs.Safe.{blocks}
-use Rattle.fragments.specs.inner.Most.{most}
 use Rattle.fragments.specs.inner.Reach.{tokensOf, isAs, standsAt, stripsAt, endOf, endAt}
 use Rattle.fragments.proofs.Bounded.{never, or-first, Holding, any-where, most-below}
 

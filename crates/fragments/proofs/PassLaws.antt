@@ -2,13 +2,12 @@
 use Prim.Native.Nat.{ℕ, suc, _+_, _-_, _≤_, _<_}
 use native.Mathlib.Omega.{arith}
 use mathlib.Core.Path.{_≡_, refl, sym, ap, _∙_}
-use mathlib.Core.Bool.{Bool, true, false}
+use mathlib.Core.Bool.{false}
 use mathlib.Core.List.{List, [], _∷_, _++_, append-assoc}
 use lib.ListN.{length, take, drop, getD, set, length-append, length-drop}
 use lib.Seq.{length-take-le, drop-cons, set-split, set-at}
-use Rattle.utf8.specs.Chars.{valid}
-use Rattle.fragments.specs.inner.Reach.{Edge, Fine, blockedAhead, reach}
-use Rattle.fragments.specs.inner.Search.{firstFrom, safeIn, Known, NextCut, cutsIn, numbersIn}
+use Rattle.fragments.specs.inner.Reach.{Fine, reach}
+use Rattle.fragments.specs.inner.Search.{safeIn, cutsIn, numbersIn}
 use Rattle.fragments.specs.declared.Cut.{Cut}
 use Rattle.fragments.proofs.BlockLaws.{valid-edge}
 use Rattle.fragments.proofs.FirstLaws.{First, first-at, first-ended}

@@ -3,7 +3,6 @@ use mathlib.Core.Path.{_≡_, sym, ap, _∙_}
 use Prim.Native.Nat.{ℕ, _+_, _-_, max}
 use native.Mathlib.Omega.{arith}
 use borrow.Author.Needs.{needs}
-use lib.ListN.{length}
 use Rattle.utf8.specs.Lists.{countFrom}
 use Rattle.model.specs.Model.{TokenList}
 use Rattle.fragments.specs.inner.Most.{most}

@@ -1,7 +1,6 @@
 -- `fragments::ranges::count_cuts` meets its contract. The loop's invariant is `Counting`.
 use Prim.Native.Nat.{_-_, _<_}
 use native.Mathlib.Omega.{arith}
-use borrow.Author.Needs.{needs}
 use lib.ListN.{length}
 use Rattle.model.specs.Model.{strings}
 use Rattle.units.specs.Derived.{namedCrossings}

@@ -1,9 +1,6 @@
 -- `fragments::ranges::write_ranges` meets its contract. The loop's invariant is `Ranging`.
-use mathlib.Core.Path.{_≡_, sym, ap, _∙_}
-use mathlib.Core.List.{List}
-use Prim.Native.Nat.{ℕ, _-_, _<_}
+use Prim.Native.Nat.{_-_, _<_}
 use native.Mathlib.Omega.{arith}
-use borrow.Author.Needs.{needs}
 use lib.ListN.{length}
 use Rattle.model.specs.Model.{strings}
 use Rattle.units.specs.Derived.{namedCrossings}
