@@ -19,14 +19,11 @@ use Rattle.utf8.proofs.Trim.{whiteWidth-whole, trimStart-stops, trimStart-next,
 use Rattle.model.specs.Model.{TokenList, strings, contents, tokenAt}
 use Rattle.sections.specs.Sections.{whiteLength}
 use Rattle.fragments.specs.inner.Reach.{tokensOf, Edge, Fine, placesAhead, standsAt, stripsAt}
-use Rattle.fragments.proofs.Bounded.{never, Holding, any-where, find-skip}
+use Rattle.fragments.proofs.ChoiceLaws.{never}
+use Rattle.fragments.proofs.Bounded.{Holding, any-where, find-skip}
 use Rattle.fragments.proofs.BlockLaws.{standing}
 
 -- ---- the token of a row
-
-pub second-false : (a : Bool) {b : Bool} → b ≡ false → (a && b) ≡ false
-second-false true e = e
-second-false false e = refl
 
 -- It has lstrip and stands at s.
 abbrev pub stripping : List ℕ → List ℕ → List Bool → List ℕ → ℕ → ℕ → Bool

@@ -22,7 +22,8 @@ use Rattle.model.specs.Model.{TokenList, contents, tokenAt}
 use Rattle.sections.specs.Sections.{whiteLength}
 use Rattle.fragments.specs.Safe.{blocks, blockStart, blockEnd, block, blockedBy}
 use Rattle.fragments.specs.inner.Reach.{Edge, Fine, placesAhead, standsAt, stripsAt, blockedAhead, blockedIn, reachOf, reachAt, reach}
-use Rattle.fragments.proofs.Bounded.{both-ways, never, lt-or-le, Holding, any-here, any-where, most-here, most-where}
+use Rattle.fragments.proofs.ChoiceLaws.{both-ways, never, lt-or-le, chosen, positive}
+use Rattle.fragments.proofs.Bounded.{Holding, any-here, any-where, most-here, most-where}
 use Rattle.fragments.proofs.WhiteLaws.{trimmed, whiteEnd, trimmed-le, trims-behind, ends-before, same-end}
 
 -- ---- where a content stands
@@ -74,13 +75,6 @@ module _ (t : TokenList) (text : List ℕ) (fine : Fine t text) where
       not-not false e = clash e refl
 
 -- ---- blocks
-
-pub positive : (b : Bool) (n : ℕ) → 0 < cond b n 0 → b ≡ true
-positive true n h = refl
-positive false n h = absurd (omega arith)
-
-pub chosen : (b : Bool) (n : ℕ) → b ≡ true → cond b n 0 ≡ n
-chosen b n e = rw e
 
 module _ (unguarded : Bool) (t : TokenList) (text : List ℕ) where
   -- A token that blocks stands at a place.

@@ -8,25 +8,10 @@ use mathlib.Core.Bool.{Bool, true, false, cond, _||_}
 use mathlib.Core.List.{List, [], _∷_}
 use mathlib.Core.Option.{none, some, Option·none-ne-some, Option·some-injective}
 use mathlib.Core.Logic.{_⊎_, inl, inr, ⊎-elim}
-use borrow.Author.Tests.{ltb-true, ltb-false}
-use lib.Dec.{ltb}
 use Rattle.utf8.specs.Lists.{any, find, countFrom}
-use Rattle.utf8.proofs.Tests.{either, clash, or-also}
+use Rattle.utf8.proofs.Tests.{clash, or-also}
 use Rattle.fragments.specs.inner.Most.{most}
-
--- Two tests are equal if each holds where the other does.
-pub both-ways : (a b : Bool) → (a ≡ true → b ≡ true) → (b ≡ true → a ≡ true) → a ≡ b
-both-ways true b to from = sym (to refl)
-both-ways false b to from = ⊎-elim (λ e. from e ∙ sym e) (λ e. sym e) (either b)
-
-pub never : (a : Bool) → (a ≡ true → ⊥) → a ≡ false
-never a f = ⊎-elim (λ e. absurd (f e)) (λ e. e) (either a)
-
-pub lt-or-le : (m n : ℕ) → (m < n) ⊎ (n ≤ m)
-lt-or-le m n = ⊎-elim (λ e. inl (ltb-true m n e)) (λ e. inr (ltb-false m n e)) (either (ltb m n))
-
-pub or-first : {a : Bool} (b : Bool) → a ≡ true → (a || b) ≡ true
-or-first b e = rw e
+use Rattle.fragments.proofs.ChoiceLaws.{or-first, lt-or-le}
 
 module _ (test : ℕ → Bool) where
   pub record Holding (a k : ℕ) : Type 0 where

@@ -17,7 +17,8 @@ use Rattle.sections.specs.inner.Seek.{mayBegin}
 use Rattle.sections.proofs.SeekLaws.{Sound, first-sound}
 use Rattle.fragments.specs.Safe.{blocks}
 use Rattle.fragments.specs.inner.Reach.{tokensOf, isAs, standsAt, stripsAt, endOf, endAt}
-use Rattle.fragments.proofs.Bounded.{never, or-first, Holding, any-where, most-below}
+use Rattle.fragments.proofs.ChoiceLaws.{never, or-first, second-false, not-chosen}
+use Rattle.fragments.proofs.Bounded.{Holding, any-where, most-below}
 
 -- ---- which tokens block
 
@@ -55,18 +56,6 @@ same-start text s e f = ap₂ startsWith e (f ∙ ap (drop s) (take-length text)
 
 -- ---- where the token of a row ends
 
-last-false : (a b : Bool) {c : Bool} → c ≡ false → (a && (b && c)) ≡ false
-last-false true true e = e
-last-false true false e = refl
-last-false false b e = refl
-
-middle-false : (a c : Bool) {b : Bool} → b ≡ false → (a && (b && c)) ≡ false
-middle-false true c e = rw e
-middle-false false c e = refl
-
-pub not-chosen : {b : Bool} (n : ℕ) → b ≡ false → 0 ≡ cond b n 0
-not-chosen n e = rw e
-
 module _ (unguarded strip : Bool) (bytes offsets : List ℕ) (lstrip rstrip : List Bool) (text : List ℕ) (s row : ℕ) where
   abbrev t : TokenList
   t = tokensOf bytes offsets lstrip rstrip
@@ -92,11 +81,11 @@ module _ (unguarded strip : Bool) (bytes offsets : List ℕ) (lstrip rstrip : Li
 
   pub end-apart : stands ≡ false → 0 ≡ endOf unguarded t text strip s row
   unfolding endOf tokenAt contents standsAt
-  end-apart e = not-chosen far (last-false flag (blocks unguarded token) e)
+  end-apart e = not-chosen far (second-false flag (second-false (blocks unguarded token) e))
 
   pub end-idle : blocks unguarded token ≡ false → 0 ≡ endOf unguarded t text strip s row
   unfolding endOf tokenAt contents standsAt
-  end-idle e = not-chosen far (middle-false flag stands e)
+  end-idle e = not-chosen far (second-false flag (ap (λ (b : Bool). b && stands) e))
 
   pub end-stands : flag ≡ true → stands ≡ true → blocks unguarded token ≡ true → far ≡ endOf unguarded t text strip s row
   unfolding endOf tokenAt contents standsAt
@@ -128,7 +117,7 @@ module _ (t : TokenList) (text : List ℕ) (begins : List ℕ) (sound : Sound be
   pub none-ends : (unguarded strip : Bool) → s < length text → mayBegin begins (getD text s 0) ≡ false → endAt unguarded t text strip s ≡ 0
   unfolding endAt endOf
   none-ends unguarded strip h e =
-      let low = most-below (endOf unguarded t text strip s) 0 (length (contents t)) 0 (λ row l k. omega (arith, not-chosen (s + length (tokenAt t row .content)) (last-false (isAs strip (tokenAt t row .rstrip)) (blocks unguarded (tokenAt t row)) (none-stands h e row (omega arith))))) in
+      let low = most-below (endOf unguarded t text strip s) 0 (length (contents t)) 0 (λ row l k. omega (arith, not-chosen (s + length (tokenAt t row .content)) (second-false (isAs strip (tokenAt t row .rstrip)) (second-false (blocks unguarded (tokenAt t row)) (none-stands h e row (omega arith)))))) in
       omega arith
 
   strip-none : ((row : ℕ) → row < length (contents t) → standsAt t text s row ≡ false) → stripsAt t text s ≡ false

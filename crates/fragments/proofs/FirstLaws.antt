@@ -22,8 +22,7 @@ use Rattle.units.specs.declared.WordSplit.{WordSplit}
 use Rattle.units.specs.declared.WordSplit.the-variants.{SpaceRuns, EveryMark, None}
 use Rattle.fragments.specs.inner.Reach.{Edge, blockedIn}
 use Rattle.fragments.specs.inner.Search.{placeOr, firstFrom, safeIn}
-use Rattle.fragments.proofs.Bounded.{never, lt-or-le}
-use Rattle.fragments.proofs.AheadLaws.{second-false}
+use Rattle.fragments.proofs.ChoiceLaws.{never, second-false, lt-or-le}
 
 module _ (test : ℕ → Bool) (n : ℕ) where
   places-at : (p : ℕ) → p < n → countFrom p (n - p) ≡ p ∷ countFrom (p + 1) (n - (p + 1))

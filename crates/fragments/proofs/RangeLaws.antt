@@ -12,7 +12,7 @@ use lib.Seq.{length-take-le, take-append-add, drop-append-add, drop-drop}
 use Rattle.utf8.specs.Lists.{filter, neighboursFrom, joinMap, countFrom}
 use Rattle.fragments.specs.Fragments.{cutsFrom}
 use Rattle.fragments.specs.inner.Search.{firstFrom, cutsIn, numbersIn}
-use Rattle.fragments.proofs.Bounded.{lt-or-le}
+use Rattle.fragments.proofs.ChoiceLaws.{lt-or-le}
 use Rattle.fragments.proofs.FirstLaws.{first-found, first-next, first-ended}
 
 module _ (safe : ℕ → Bool) (n step : ℕ) where

@@ -14,9 +14,10 @@ use Rattle.model.specs.Model.{TokenList, contents, tokenAt}
 use Rattle.sections.specs.inner.Strips.{stopAt}
 use Rattle.fragments.specs.Safe.{blocks, blockEnd}
 use Rattle.fragments.specs.inner.Reach.{Edge, Fine, Longest, isAs, standsAt, plainFar, stripFar, furthest, reach, endOf, endAt, endBetween}
-use Rattle.fragments.proofs.Bounded.{lt-or-le, most-here, most-where}
+use Rattle.fragments.proofs.ChoiceLaws.{lt-or-le, chosen, positive}
+use Rattle.fragments.proofs.Bounded.{most-here, most-where}
 use Rattle.fragments.proofs.WhiteLaws.{trimmed, whiteEnd, trimmed-le, trims-behind, same-end, stops-at}
-use Rattle.fragments.proofs.BlockLaws.{Standing, standing, Occurs, positive, chosen, reach-here, reach-where}
+use Rattle.fragments.proofs.BlockLaws.{Standing, standing, Occurs, reach-here, reach-where}
 
 module _ (unguarded : Bool) (t : TokenList) (text : List ℕ) where
   abbrev end : ℕ → ℕ → ℕ

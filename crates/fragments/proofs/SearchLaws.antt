@@ -19,7 +19,8 @@ use Rattle.fragments.specs.Safe.{blockEnd}
 use Rattle.fragments.specs.inner.Most.{most}
 use Rattle.fragments.specs.inner.Reach.{tokensOf, Edge, Fine, placesAhead, standsAt, stripsAt, blockedAhead, reachAt, reach}
 use Rattle.fragments.specs.inner.Search.{Known, BlockedTo, FreeAt}
-use Rattle.fragments.proofs.Bounded.{lt-or-le, most-split, find-where, find-nothing}
+use Rattle.fragments.proofs.ChoiceLaws.{lt-or-le, positive}
+use Rattle.fragments.proofs.Bounded.{most-split, find-where, find-nothing}
 use Rattle.fragments.proofs.WhiteLaws.{whiteEnd, whiteEnd-le}
 use Rattle.fragments.proofs.BlockLaws.{standing, Furthest, reach-where, reach-blocks, ahead-blocks, free, ahead-kept}
 
@@ -84,14 +85,10 @@ module _ {unguarded : Bool} {t : TokenList} {text : List ℕ} {at ahead p : ℕ}
   abbrev here : ℕ
   here = reach unguarded t text at p
 
-  positive : (b : Bool) (n : ℕ) → (cond b n 0 ≡ 0 → ⊥) → b ≡ true
-  positive true n h = refl
-  positive false n h = absurd (h refl)
-
   -- It is blocked from before it,
   pub judged-back : (r : ℕ) → r ≡ cond (leb p here) here 0 → (r ≡ 0 → ⊥) → BlockedTo unguarded t text p r
   judged-back r e more =
-      let yes : leb p here ≡ true = positive (leb p here) here (λ z. more (e ∙ z)) in
+      let yes : leb p here ≡ true = positive (leb p here) here (omega (arith, e, more)) in
       let is : r ≡ here = e ∙ rw yes in
       let far : p ≤ here = leb-true p here yes in
       record {

@@ -72,9 +72,6 @@ starts-front [] c e = refl
 starts-front (x ∷ b) c e = e
 
 module _ (a b c : List ℕ) (eb : hasForm (tail ∷ []) (b ++ c) ≡ false) (ec : hasForm (tail ∷ []) c ≡ false) where
-  whites : List (List ℕ)
-  whites = chars b
-
   start-white : all isWhite (chars b) ≡ true → trimStart (b ++ c) ≡ trimStart c
   unfolding trimStart
   start-white e = ap (λ (cs : List (List ℕ)). join (dropWhile isWhite cs)) (chars-append b c ec) ∙ ap join (drop-all isWhite (chars b) (chars c) e)
