@@ -137,3 +137,15 @@ module _ (f : ℕ → ℕ) where
 
   pub most-ended : (row n far : ℕ) → n ≤ row → max far (most f (countFrom row (n - row))) ≡ far
   most-ended row n far h = let none-left : n - row ≡ 0 = omega arith in rw none-left (omega arith)
+
+  -- The same walked back from the end.
+  pub most-last : (from s far : ℕ) → from < s → max far (most f (countFrom from (s - from))) ≡ max (max far (f (s - 1))) (most f (countFrom from ((s - 1) - from)))
+  most-last from s far h =
+      let parts : s - from ≡ ((s - 1) - from) + 1 = omega arith in
+      let last : from + ((s - 1) - from) ≡ s - 1 = omega arith in
+      let split : most f (countFrom from (s - from)) ≡ max (most f (countFrom from ((s - 1) - from))) (max (f (s - 1)) 0) =
+      ap (λ (k : ℕ). most f (countFrom from k)) parts ∙ most-split from ((s - 1) - from) 1 ∙ ap (λ (k : ℕ). max (most f (countFrom from ((s - 1) - from))) (max (f k) 0)) last in
+      omega (arith, split)
+
+  pub most-none : (from s far : ℕ) → s ≤ from → max far (most f (countFrom from (s - from))) ≡ far
+  most-none from s far h = let none-left : s - from ≡ 0 = omega arith in rw none-left (omega arith)

@@ -1,5 +1,5 @@
 -- Where tokens that block end, by the columns of their list; and bytes that no content begins with. Assumes nothing.
-use Prim.Native.Nat.{ℕ, suc, _+_, _-_, _<_}
+use Prim.Native.Nat.{ℕ, suc, _+_, _-_, _≤_, _<_, max}
 use native.Mathlib.Omega.{arith}
 use mathlib.Core.Path.{_≡_, refl, sym, ap, ap₂, _∙_}
 use mathlib.Core.Bool.{Bool, true, false, cond, _&&_, _||_}
@@ -7,7 +7,7 @@ use mathlib.Core.List.{List, [], _∷_}
 use lib.Dec.{eqb}
 use lib.ListN.{length, drop, getD}
 use lib.Seq.{slice, take-length, drop-cons}
-use Rattle.utf8.specs.Lists.{isEmpty, any, startsWith}
+use Rattle.utf8.specs.Lists.{isEmpty, any, countFrom, startsWith}
 use Rattle.utf8.proofs.Tests.{clash, and-both, or-left, or-also}
 use Rattle.utf8.proofs.Elements.{any-false-at}
 use Rattle.model.specs.Check.{emptyOrNoText, badToken}
@@ -16,7 +16,8 @@ use Rattle.sections.specs.Beginnings.{beginsWith, beginnings}
 use Rattle.sections.specs.inner.Seek.{mayBegin}
 use Rattle.sections.proofs.SeekLaws.{Sound, first-sound}
 use Rattle.fragments.specs.Safe.{blocks}
-use Rattle.fragments.specs.inner.Reach.{tokensOf, isAs, standsAt, stripsAt, endOf, endAt}
+use Rattle.fragments.specs.inner.Most.{most}
+use Rattle.fragments.specs.inner.Reach.{tokensOf, Longest, isAs, standsAt, stripsAt, endOf, endAt}
 use Rattle.fragments.proofs.ChoiceLaws.{never, or-first, second-false, not-chosen}
 use Rattle.fragments.proofs.Bounded.{Holding, any-where, most-below}
 
@@ -93,6 +94,23 @@ module _ (unguarded strip : Bool) (bytes offsets : List ℕ) (lstrip rstrip : Li
     where
       picked : {b : Bool} → b ≡ true → cond b far 0 ≡ far
       picked q = rw q
+
+-- ---- how far a token can go
+
+module _ (unguarded : Bool) (t : TokenList) (text : List ℕ) (strip : Bool) (longest : ℕ) (bound : Longest t longest) where
+  end-most : (s : ℕ) → endAt unguarded t text strip s ≤ s + longest
+  unfolding endAt endOf
+  end-most s = most-below (endOf unguarded t text strip s) 0 (length (contents t)) (s + longest) (λ row l h. at-most (isAs strip (tokenAt t row .rstrip) && (blocks unguarded (tokenAt t row) && standsAt t text s row)) (length (tokenAt t row .content)) (bound .bounds row (omega arith)))
+    where
+      at-most : (b : Bool) (n : ℕ) → n ≤ longest → cond b (s + n) 0 ≤ s + longest
+      at-most true n h = omega arith
+      at-most false n h = omega arith
+
+  -- Where no token can end beyond what was found, the rest does not matter.
+  pub end-passed : (from s far : ℕ) → 0 < s → (s - 1) + longest ≤ far → far ≡ max far (most (endAt unguarded t text strip) (countFrom from (s - from)))
+  end-passed from s far pos h =
+      let low = most-below (endAt unguarded t text strip) from (s - from) far (λ x l k. omega (arith, end-most x)) in
+      omega arith
 
 -- ---- bytes that no content begins with
 

@@ -17,7 +17,8 @@ use Rattle.model.specs.Model.{TokenList}
 use Rattle.units.specs.Derived.{namedCrossings}
 use Rattle.units.specs.declared.WordSplit.{WordSplit}
 use Rattle.fragments.specs.Fragments.{cutsFrom}
-use Rattle.fragments.specs.inner.Search.{Given, safeIn, cutsIn, numbersIn, rangesOutcome}
+use Rattle.fragments.specs.inner.Reach.{Given}
+use Rattle.fragments.specs.inner.Search.{safeIn, cutsIn, numbersIn, rangesOutcome}
 use Rattle.fragments.proofs.RangeLaws.{length-numbers}
 
 cuts-among : (step last : ℕ) (places : List ℕ) → length (cutsFrom step last places) ≤ length places

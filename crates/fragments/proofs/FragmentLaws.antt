@@ -33,8 +33,8 @@ use Rattle.sections.specs.Beginnings.{beginnings}
 use Rattle.sections.proofs.LengthLaws.{none-longer}
 use Rattle.fragments.specs.Safe.{isUnguarded, blocks, blockStart, blockEnd, block, blockedBy, isBlocked, isSafe}
 use Rattle.fragments.specs.Fragments.{cuts, ranges, rangeNumbers, fragmentsNumber, fragmentsOutcome}
-use Rattle.fragments.specs.inner.Reach.{tokensOf, Longest, blockedIn}
-use Rattle.fragments.specs.inner.Search.{safeIn, Given, cutsIn, numbersIn, rangesOutcome}
+use Rattle.fragments.specs.inner.Reach.{tokensOf, Longest, blockedIn, Given}
+use Rattle.fragments.specs.inner.Search.{safeIn, cutsIn, numbersIn, rangesOutcome}
 use Rattle.fragments.proofs.FinishLaws.{rangesBy, ranges-read}
 
 -- ---- the outcome

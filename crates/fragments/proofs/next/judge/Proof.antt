@@ -51,7 +51,7 @@ look-back-requires : tie.Need-look-back-requires
 look-back-requires c κs = let s = start c in
     let g = s .pre .1 .1 .0 in
     let n = s .pre .1 .1 .1 in
-    ((n .low, omega (arith, s .pre .0 .1)), ((n .edge, s .pre .1 .0), (g .first, (g .long, g .fine))))
+    ((n .low, omega (arith, s .pre .0 .1)), ((n .edge, s .pre .1 .0), g))
 
 returns : tie.Need-returns
 returns c = let k = c .before .before in
