@@ -3,14 +3,14 @@ use Prim.Native.Nat.{ℕ, suc, _+_, _-_, _≤_, _<_}
 use native.Mathlib.Nat.{eq-or-lt-of-le}
 use native.Mathlib.Omega.{arith}
 use mathlib.Core.Path.{_≡_, refl, sym, ap, _∙_}
-use mathlib.Core.Bool.{Bool, true, false, cond, _&&_}
+use mathlib.Core.Bool.{Bool, true, false, _&&_}
 use mathlib.Core.Logic.{⊎-elim}
 use mathlib.Core.List.{List, [], _∷_}
-use mathlib.Core.Option.{Option, none, some}
+use mathlib.Core.Option.{none, some}
 use lib.ListN.{length, drop, getD, length-drop}
 use lib.Seq.{drop-cons, getD-drop}
 use Rattle.utf8.specs.Lists.{any, find, within, startsWith, countFrom}
-use Rattle.utf8.specs.Chars.{tail, hasForm, charWidth}
+use Rattle.utf8.specs.Chars.{tail, hasForm}
 use Rattle.utf8.specs.WhiteSpace.{trimStart}
 use Rattle.utf8.specs.inner.Ends.{whiteWidth}
 use Rattle.utf8.proofs.Tests.{clash, and-right, and-both}
@@ -19,14 +19,11 @@ use Rattle.utf8.proofs.Trim.{whiteWidth-whole, trimStart-stops, trimStart-next,
 use Rattle.model.specs.Model.{TokenList, strings, contents, tokenAt}
 use Rattle.sections.specs.Sections.{whiteLength}
 use Rattle.fragments.specs.inner.Reach.{tokensOf, Edge, Fine, placesAhead, standsAt, stripsAt}
-use Rattle.fragments.proofs.Bounded.{never, Holding, any-where, find-skip}
-use Rattle.fragments.proofs.BlockLaws.{Standing, standing}
+use Rattle.fragments.proofs.ChoiceLaws.{never}
+use Rattle.fragments.proofs.Bounded.{Holding, any-where, find-skip}
+use Rattle.fragments.proofs.BlockLaws.{standing}
 
 -- ---- the token of a row
-
-pub second-false : (a : Bool) {b : Bool} → b ≡ false → (a && b) ≡ false
-second-false true e = e
-second-false false e = refl
 
 -- It has lstrip and stands at s.
 abbrev pub stripping : List ℕ → List ℕ → List Bool → List ℕ → ℕ → ℕ → Bool

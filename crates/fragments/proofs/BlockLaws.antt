@@ -1,31 +1,30 @@
 -- Which places the tokens of a list block: those that a block reaches which begins before them, and those that one has ahead of them.
 -- Assumes nothing.
-use Prim.Native.Nat.{ℕ, suc, _+_, _-_, _≤_, _<_, max}
+use Prim.Native.Nat.{ℕ, suc, _+_, _-_, _≤_, _<_}
 use native.Mathlib.Omega.{arith}
 use mathlib.Core.Path.{_≡_, refl, sym, ap, _∙_}
 use mathlib.Core.Bool.{Bool, true, false, not, cond, _&&_, _||_}
-use mathlib.Core.Logic.{_⊎_, inl, inr, ⊎-elim}
+use mathlib.Core.Logic.{_⊎_, ⊎-elim}
 use mathlib.Core.List.{List, [], _∷_, _++_}
-use borrow.Author.Tests.{leb-true, le-leb, not-true}
+use borrow.Author.Tests.{leb-true, le-leb}
 use lib.Dec.{leb}
-use lib.ListN.{length, take, drop, getD, length-drop, take-append-drop}
+use lib.ListN.{length, take, drop, length-drop, take-append-drop}
 use lib.Seq.{drop-drop}
-use Rattle.utf8.specs.Lists.{isEmpty, any, below, startsWith, within}
+use Rattle.utf8.specs.Lists.{isEmpty, any, startsWith, within}
 use Rattle.utf8.specs.Chars.{tail, hasForm, valid}
 use Rattle.utf8.proofs.Tests.{either, clash, and-left, and-right, and-both, or-left, or-right, or-also, within-low, within-high, within-in}
 use Rattle.utf8.proofs.Elements.{any-false-at, not-empty-long}
 use Rattle.utf8.proofs.Starts.{starts-length}
-use Rattle.utf8.proofs.Valid.{starts-with-char, valid-append, valid-cut}
-use Rattle.utf8.proofs.Characters.{char-starts}
+use Rattle.utf8.proofs.Valid.{valid-append, valid-cut}
 use Rattle.utf8.proofs.Joins.{starts-rest, valid-starts}
 use Rattle.model.specs.Check.{emptyOrNoText, badToken}
 use Rattle.model.specs.Model.{TokenList, contents, tokenAt}
 use Rattle.sections.specs.Sections.{whiteLength}
 use Rattle.fragments.specs.Safe.{blocks, blockStart, blockEnd, block, blockedBy}
-use Rattle.fragments.specs.inner.Most.{most}
-use Rattle.fragments.specs.inner.Reach.{Edge, Fine, isAs, placesAhead, standsAt, stripsAt, blockedAhead, blockedIn, reachOf, reachAt, reach, endOf, endAt, endBetween}
-use Rattle.fragments.proofs.Bounded.{both-ways, never, lt-or-le, Holding, any-here, any-where, Greatest, most-here, most-below, most-where}
-use Rattle.fragments.proofs.WhiteLaws.{trimmed, whiteEnd, trimmed-le, whiteEnd-le, trims-behind, ends-before, same-end}
+use Rattle.fragments.specs.inner.Reach.{Edge, Fine, placesAhead, standsAt, stripsAt, blockedAhead, blockedIn, reachOf, reachAt, reach}
+use Rattle.fragments.proofs.ChoiceLaws.{both-ways, never, lt-or-le, chosen, positive}
+use Rattle.fragments.proofs.Bounded.{Holding, any-here, any-where, most-here, most-where}
+use Rattle.fragments.proofs.WhiteLaws.{trimmed, whiteEnd, trimmed-le, trims-behind, ends-before, same-end}
 
 -- ---- where a content stands
 
@@ -76,13 +75,6 @@ module _ (t : TokenList) (text : List ℕ) (fine : Fine t text) where
       not-not false e = clash e refl
 
 -- ---- blocks
-
-pub positive : (b : Bool) (n : ℕ) → 0 < cond b n 0 → b ≡ true
-positive true n h = refl
-positive false n h = absurd (omega arith)
-
-pub chosen : (b : Bool) (n : ℕ) → b ≡ true → cond b n 0 ≡ n
-chosen b n e = rw e
 
 module _ (unguarded : Bool) (t : TokenList) (text : List ℕ) where
   -- A token that blocks stands at a place.

@@ -8,25 +8,10 @@ use mathlib.Core.Bool.{Bool, true, false, cond, _||_}
 use mathlib.Core.List.{List, [], _∷_}
 use mathlib.Core.Option.{none, some, Option·none-ne-some, Option·some-injective}
 use mathlib.Core.Logic.{_⊎_, inl, inr, ⊎-elim}
-use borrow.Author.Tests.{ltb-true, ltb-false}
-use lib.Dec.{ltb}
 use Rattle.utf8.specs.Lists.{any, find, countFrom}
-use Rattle.utf8.proofs.Tests.{either, clash, or-also}
+use Rattle.utf8.proofs.Tests.{clash, or-also}
 use Rattle.fragments.specs.inner.Most.{most}
-
--- Two tests are equal if each holds where the other does.
-pub both-ways : (a b : Bool) → (a ≡ true → b ≡ true) → (b ≡ true → a ≡ true) → a ≡ b
-both-ways true b to from = sym (to refl)
-both-ways false b to from = ⊎-elim (λ e. from e ∙ sym e) (λ e. sym e) (either b)
-
-pub never : (a : Bool) → (a ≡ true → ⊥) → a ≡ false
-never a f = ⊎-elim (λ e. absurd (f e)) (λ e. e) (either a)
-
-pub lt-or-le : (m n : ℕ) → (m < n) ⊎ (n ≤ m)
-lt-or-le m n = ⊎-elim (λ e. inl (ltb-true m n e)) (λ e. inr (ltb-false m n e)) (either (ltb m n))
-
-pub or-first : {a : Bool} (b : Bool) → a ≡ true → (a || b) ≡ true
-or-first b e = rw e
+use Rattle.fragments.proofs.ChoiceLaws.{or-first, lt-or-le}
 
 module _ (test : ℕ → Bool) where
   pub record Holding (a k : ℕ) : Type 0 where
@@ -152,3 +137,15 @@ module _ (f : ℕ → ℕ) where
 
   pub most-ended : (row n far : ℕ) → n ≤ row → max far (most f (countFrom row (n - row))) ≡ far
   most-ended row n far h = let none-left : n - row ≡ 0 = omega arith in rw none-left (omega arith)
+
+  -- The same walked back from the end.
+  pub most-last : (from s far : ℕ) → from < s → max far (most f (countFrom from (s - from))) ≡ max (max far (f (s - 1))) (most f (countFrom from ((s - 1) - from)))
+  most-last from s far h =
+      let parts : s - from ≡ ((s - 1) - from) + 1 = omega arith in
+      let last : from + ((s - 1) - from) ≡ s - 1 = omega arith in
+      let split : most f (countFrom from (s - from)) ≡ max (most f (countFrom from ((s - 1) - from))) (max (f (s - 1)) 0) =
+      ap (λ (k : ℕ). most f (countFrom from k)) parts ∙ most-split from ((s - 1) - from) 1 ∙ ap (λ (k : ℕ). max (most f (countFrom from ((s - 1) - from))) (max (f k) 0)) last in
+      omega (arith, split)
+
+  pub most-none : (from s far : ℕ) → s ≤ from → max far (most f (countFrom from (s - from))) ≡ far
+  most-none from s far h = let none-left : s - from ≡ 0 = omega arith in rw none-left (omega arith)

@@ -2,14 +2,14 @@
 use Prim.Native.Nat.{ℕ, _+_, _≤_, _<_}
 use native.Mathlib.Omega.{arith}
 use mathlib.Core.Path.{_≡_, refl, sym, ap, _∙_}
-use mathlib.Core.Bool.{Bool, true, false}
+use mathlib.Core.Bool.{Bool, true}
 use mathlib.Core.List.{List}
 use lib.ListN.{length}
 use Rattle.model.specs.Model.{TokenList}
 use Rattle.units.specs.Kinds.{Crossing}
 use Rattle.units.specs.Units.{markCuts}
 use Rattle.units.specs.declared.WordSplit.{WordSplit}
-use Rattle.fragments.specs.inner.Reach.{Edge, blockedIn}
+use Rattle.fragments.specs.inner.Reach.{Edge}
 use Rattle.fragments.specs.inner.Search.{firstFrom, safeIn, Known, BlockedTo, FreeAt, NextCut}
 use Rattle.fragments.specs.declared.Cut.{Cut}
 use Rattle.fragments.proofs.FirstLaws.{First, first-at, first-found, first-ended, first-skip, first-narrow, cuts-edge, safe-mark, safe-blocked, safe-free}
@@ -56,53 +56,53 @@ module _ (o : Over) where
   pub known-later : (at clear p q : ℕ) → p ≤ q → KnownOver o at clear p → KnownOver o at clear q
   known-later at clear p q h k = record { low = omega (arith, k .low); edge = k .edge; past = omega (arith, k .past); clear = k .clear }
 
-  module _ (from at clear p mark : ℕ) (s : Searching from at clear p) (is : mark ≡ firstFrom marks (length text) p) where
-    first : First marks (length text) p mark
-    first = rw is (first-at marks (length text) p)
+module _ {o : Over} {from at clear p mark : ℕ} (s : Searching o from at clear p) (is : mark ≡ firstFrom (marks o) (length (o .text)) p) where
+  first : First (marks o) (length (o .text)) p mark
+  first = rw is (first-at (marks o) (length (o .text)) p)
 
-    to-mark : firstFrom safe (length text) from ≡ firstFrom safe (length text) mark
-    to-mark =
-        s .same
-        ∙ first-narrow safe marks (length text) p (λ q e. safe-mark (o .kind) (o .noted) (o .unguarded) (o .tokens) text q e)
-        ∙ ap (firstFrom safe (length text)) (sym is)
+  to-mark : firstFrom (safe o) (length (o .text)) from ≡ firstFrom (safe o) (length (o .text)) mark
+  to-mark =
+      s .same
+      ∙ first-narrow (safe o) (marks o) (length (o .text)) p (λ q e. safe-mark (o .kind) (o .noted) (o .unguarded) (o .tokens) (o .text) q e)
+      ∙ ap (firstFrom (safe o) (length (o .text))) (sym is)
 
-    -- No mark is left,
-    pub cut-ended : length text ≤ mark → NextOver o from (record { place = mark; ahead = clear })
-    cut-ended h =
-        let end : mark ≡ length text = omega (arith, first .high) in
-        record { is = end ∙ sym (to-mark ∙ first-ended safe (length text) mark h); known = λ l. absurd (omega arith) }
+  -- No mark is left,
+  pub cut-ended : length (o .text) ≤ mark → NextOver o from (record { place = mark; ahead = clear })
+  cut-ended h =
+      let end : mark ≡ length (o .text) = omega (arith, first .high) in
+      record { is = end ∙ sym (to-mark ∙ first-ended (safe o) (length (o .text)) mark h); known = λ l. absurd (omega arith) }
 
-    module _ (h : mark < length text) where
-      pub mark-above : 0 < mark
-      mark-above = omega (arith, s .above, first .low h)
+  module _ (h : mark < length (o .text)) where
+    pub mark-above : 0 < mark
+    mark-above = omega (arith, s .above, first .low h)
 
-      pub mark-low : p ≤ mark
-      mark-low = first .low h
+    pub mark-low : p ≤ mark
+    mark-low = first .low h
 
-      pub mark-edge : Edge text mark
-      mark-edge = cuts-edge (o .kind) (o .noted) text mark (first .holds h)
+    pub mark-edge : Edge (o .text) mark
+    mark-edge = cuts-edge (o .kind) (o .noted) (o .text) mark (first .holds h)
 
-      pub mark-known : KnownOver o at clear mark
-      mark-known = known-later at clear p mark (first .low h) (s .known)
+    pub mark-known : KnownOver o at clear mark
+    mark-known = known-later o at clear p mark (first .low h) (s .known)
 
-      -- or it is safe,
-      pub cut-found : (end : ℕ) → FreeAt (o .unguarded) (o .tokens) text mark end → NextOver o from (record { place = mark; ahead = end })
-      cut-found end f =
-          record {
-            is = sym (to-mark ∙ first-found safe (length text) mark h (safe-free (o .kind) (o .noted) (o .unguarded) (o .tokens) text mark mark-above (first .holds h) (f .free)));
-            known = λ l. f .known;
-          }
+    -- or it is safe,
+    pub cut-found : (end : ℕ) → FreeAt (o .unguarded) (o .tokens) (o .text) mark end → NextOver o from (record { place = mark; ahead = end })
+    cut-found end f =
+        record {
+          is = sym (to-mark ∙ first-found (safe o) (length (o .text)) mark h (safe-free (o .kind) (o .noted) (o .unguarded) (o .tokens) (o .text) mark mark-above (first .holds h) (f .free)));
+          known = λ l. f .known;
+        }
 
-      -- or blocks are passed.
-      pub cut-passed : (end : ℕ) → BlockedTo (o .unguarded) (o .tokens) text mark end → Searching from mark clear (end + 1)
-      cut-passed end b =
-          record {
-            above = omega arith;
-            known = record {
-              low = omega (arith, b .low);
-              edge = mark-edge;
-              past = omega (arith, b .past);
-              clear = λ q l m e. s .known .clear q (omega (arith, s .known .low, first .low h)) m e;
-            };
-            same = to-mark ∙ first-skip safe (length text) mark (end + 1) (omega (arith, b .low)) (λ q l m. safe-blocked (o .kind) (o .noted) (o .unguarded) (o .tokens) text q (b .all-blocked q l (omega arith)));
-          }
+    -- or blocks are passed.
+    pub cut-passed : (end : ℕ) → BlockedTo (o .unguarded) (o .tokens) (o .text) mark end → Searching o from mark clear (end + 1)
+    cut-passed end b =
+        record {
+          above = omega arith;
+          known = record {
+            low = omega (arith, b .low);
+            edge = mark-edge;
+            past = omega (arith, b .past);
+            clear = λ q l m e. s .known .clear q (omega (arith, s .known .low, first .low h)) m e;
+          };
+          same = to-mark ∙ first-skip (safe o) (length (o .text)) mark (end + 1) (omega (arith, b .low)) (λ q l m. safe-blocked (o .kind) (o .noted) (o .unguarded) (o .tokens) (o .text) q (b .all-blocked q l (omega arith)));
+        }

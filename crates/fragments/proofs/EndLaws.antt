@@ -2,14 +2,13 @@
 use Prim.Native.Nat.{ℕ, suc, _+_, _-_, _≤_, _<_, max}
 use native.Mathlib.Omega.{arith}
 use mathlib.Core.Path.{_≡_, refl, sym, ap, ap₂, _∙_}
-use mathlib.Core.Bool.{Bool, true, false, not, cond, _&&_, _||_}
-use mathlib.Core.Logic.{⊎-elim}
+use mathlib.Core.Bool.{Bool, true, false, cond, _&&_, _||_}
 use mathlib.Core.List.{List, [], _∷_}
 use lib.Dec.{eqb}
 use lib.ListN.{length, drop, getD}
 use lib.Seq.{slice, take-length, drop-cons}
-use Rattle.utf8.specs.Lists.{isEmpty, any, below, startsWith}
-use Rattle.utf8.proofs.Tests.{either, clash, and-both, or-left, or-also}
+use Rattle.utf8.specs.Lists.{isEmpty, any, countFrom, startsWith}
+use Rattle.utf8.proofs.Tests.{clash, and-both, or-left, or-also}
 use Rattle.utf8.proofs.Elements.{any-false-at}
 use Rattle.model.specs.Check.{emptyOrNoText, badToken}
 use Rattle.model.specs.Model.{TokenList, Token, strings, contents, tokenAt}
@@ -18,8 +17,9 @@ use Rattle.sections.specs.inner.Seek.{mayBegin}
 use Rattle.sections.proofs.SeekLaws.{Sound, first-sound}
 use Rattle.fragments.specs.Safe.{blocks}
 use Rattle.fragments.specs.inner.Most.{most}
-use Rattle.fragments.specs.inner.Reach.{tokensOf, isAs, standsAt, stripsAt, endOf, endAt}
-use Rattle.fragments.proofs.Bounded.{never, or-first, Holding, any-where, most-below}
+use Rattle.fragments.specs.inner.Reach.{tokensOf, Longest, isAs, standsAt, stripsAt, endOf, endAt}
+use Rattle.fragments.proofs.ChoiceLaws.{never, or-first, second-false, not-chosen}
+use Rattle.fragments.proofs.Bounded.{Holding, any-where, most-below}
 
 -- ---- which tokens block
 
@@ -57,18 +57,6 @@ same-start text s e f = ap₂ startsWith e (f ∙ ap (drop s) (take-length text)
 
 -- ---- where the token of a row ends
 
-last-false : (a b : Bool) {c : Bool} → c ≡ false → (a && (b && c)) ≡ false
-last-false true true e = e
-last-false true false e = refl
-last-false false b e = refl
-
-middle-false : (a c : Bool) {b : Bool} → b ≡ false → (a && (b && c)) ≡ false
-middle-false true c e = rw e
-middle-false false c e = refl
-
-pub not-chosen : {b : Bool} (n : ℕ) → b ≡ false → 0 ≡ cond b n 0
-not-chosen n e = rw e
-
 module _ (unguarded strip : Bool) (bytes offsets : List ℕ) (lstrip rstrip : List Bool) (text : List ℕ) (s row : ℕ) where
   abbrev t : TokenList
   t = tokensOf bytes offsets lstrip rstrip
@@ -94,11 +82,11 @@ module _ (unguarded strip : Bool) (bytes offsets : List ℕ) (lstrip rstrip : Li
 
   pub end-apart : stands ≡ false → 0 ≡ endOf unguarded t text strip s row
   unfolding endOf tokenAt contents standsAt
-  end-apart e = not-chosen far (last-false flag (blocks unguarded token) e)
+  end-apart e = not-chosen far (second-false flag (second-false (blocks unguarded token) e))
 
   pub end-idle : blocks unguarded token ≡ false → 0 ≡ endOf unguarded t text strip s row
   unfolding endOf tokenAt contents standsAt
-  end-idle e = not-chosen far (middle-false flag stands e)
+  end-idle e = not-chosen far (second-false flag (ap (λ (b : Bool). b && stands) e))
 
   pub end-stands : flag ≡ true → stands ≡ true → blocks unguarded token ≡ true → far ≡ endOf unguarded t text strip s row
   unfolding endOf tokenAt contents standsAt
@@ -106,6 +94,23 @@ module _ (unguarded strip : Bool) (bytes offsets : List ℕ) (lstrip rstrip : Li
     where
       picked : {b : Bool} → b ≡ true → cond b far 0 ≡ far
       picked q = rw q
+
+-- ---- how far a token can go
+
+module _ (unguarded : Bool) (t : TokenList) (text : List ℕ) (strip : Bool) (longest : ℕ) (bound : Longest t longest) where
+  end-most : (s : ℕ) → endAt unguarded t text strip s ≤ s + longest
+  unfolding endAt endOf
+  end-most s = most-below (endOf unguarded t text strip s) 0 (length (contents t)) (s + longest) (λ row l h. at-most (isAs strip (tokenAt t row .rstrip) && (blocks unguarded (tokenAt t row) && standsAt t text s row)) (length (tokenAt t row .content)) (bound .bounds row (omega arith)))
+    where
+      at-most : (b : Bool) (n : ℕ) → n ≤ longest → cond b (s + n) 0 ≤ s + longest
+      at-most true n h = omega arith
+      at-most false n h = omega arith
+
+  -- Where no token can end beyond what was found, the rest does not matter.
+  pub end-passed : (from s far : ℕ) → 0 < s → (s - 1) + longest ≤ far → far ≡ max far (most (endAt unguarded t text strip) (countFrom from (s - from)))
+  end-passed from s far pos h =
+      let low = most-below (endAt unguarded t text strip) from (s - from) far (λ x l k. omega (arith, end-most x)) in
+      omega arith
 
 -- ---- bytes that no content begins with
 
@@ -130,7 +135,7 @@ module _ (t : TokenList) (text : List ℕ) (begins : List ℕ) (sound : Sound be
   pub none-ends : (unguarded strip : Bool) → s < length text → mayBegin begins (getD text s 0) ≡ false → endAt unguarded t text strip s ≡ 0
   unfolding endAt endOf
   none-ends unguarded strip h e =
-      let low = most-below (endOf unguarded t text strip s) 0 (length (contents t)) 0 (λ row l k. omega (arith, not-chosen (s + length (tokenAt t row .content)) (last-false (isAs strip (tokenAt t row .rstrip)) (blocks unguarded (tokenAt t row)) (none-stands h e row (omega arith))))) in
+      let low = most-below (endOf unguarded t text strip s) 0 (length (contents t)) 0 (λ row l k. omega (arith, not-chosen (s + length (tokenAt t row .content)) (second-false (isAs strip (tokenAt t row .rstrip)) (second-false (blocks unguarded (tokenAt t row)) (none-stands h e row (omega arith)))))) in
       omega arith
 
   strip-none : ((row : ℕ) → row < length (contents t) → standsAt t text s row ≡ false) → stripsAt t text s ≡ false

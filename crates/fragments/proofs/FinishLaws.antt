@@ -1,7 +1,7 @@
 -- The ranges as the result of a call. Assumes nothing.
 use Prim.Native.Nat.{ℕ, _+_, _-_, _≤_, _<_}
 use native.Mathlib.Omega.{arith}
-use mathlib.Core.Path.{_≡_, refl, sym, ap, _∙_}
+use mathlib.Core.Path.{_≡_, sym, ap, _∙_}
 use mathlib.Core.Bool.{Bool, true, false, cond}
 use mathlib.Core.List.{List, [], _∷_, _++_}
 use borrow.Author.Tests.{lt-ltb, le-ltb}
@@ -17,7 +17,8 @@ use Rattle.model.specs.Model.{TokenList}
 use Rattle.units.specs.Derived.{namedCrossings}
 use Rattle.units.specs.declared.WordSplit.{WordSplit}
 use Rattle.fragments.specs.Fragments.{cutsFrom}
-use Rattle.fragments.specs.inner.Search.{Given, safeIn, cutsIn, numbersIn, rangesOutcome}
+use Rattle.fragments.specs.inner.Reach.{Given}
+use Rattle.fragments.specs.inner.Search.{safeIn, cutsIn, numbersIn, rangesOutcome}
 use Rattle.fragments.proofs.RangeLaws.{length-numbers}
 
 cuts-among : (step last : ℕ) (places : List ℕ) → length (cutsFrom step last places) ≤ length places

@@ -7,14 +7,13 @@ use mathlib.Core.Path.{_≡_, refl, sym, ap, _∙_}
 use mathlib.Core.Bool.{Bool, true, false, not, cond, _&&_, _||_}
 use mathlib.Core.Logic.{⊎-elim}
 use mathlib.Core.List.{List, [], _∷_}
-use mathlib.Core.Option.{Option, none, some}
 use borrow.Author.Tests.{eqb-true, eq-eqb, lt-ltb}
 use lib.Dec.{eqb, ltb}
 use lib.ListN.{length, drop, getD}
 use lib.Seq.{drop-cons}
-use Rattle.utf8.specs.Lists.{any, find, countFrom, within, startsWith}
+use Rattle.utf8.specs.Lists.{find, countFrom, startsWith}
 use Rattle.utf8.specs.Chars.{tail, hasForm}
-use Rattle.utf8.proofs.Tests.{either, clash, and-left, and-right, and-both, or-left, or-right}
+use Rattle.utf8.proofs.Tests.{clash, and-left, and-both, or-left, or-right}
 use Rattle.model.specs.Model.{TokenList}
 use Rattle.model.specs.Mark.{mark, space, markWidth, startsWithMark}
 use Rattle.units.specs.Kinds.{Crossing}
@@ -23,8 +22,7 @@ use Rattle.units.specs.declared.WordSplit.{WordSplit}
 use Rattle.units.specs.declared.WordSplit.the-variants.{SpaceRuns, EveryMark, None}
 use Rattle.fragments.specs.inner.Reach.{Edge, blockedIn}
 use Rattle.fragments.specs.inner.Search.{placeOr, firstFrom, safeIn}
-use Rattle.fragments.proofs.Bounded.{never, lt-or-le}
-use Rattle.fragments.proofs.AheadLaws.{second-false}
+use Rattle.fragments.proofs.ChoiceLaws.{never, second-false, lt-or-le}
 
 module _ (test : ℕ → Bool) (n : ℕ) where
   places-at : (p : ℕ) → p < n → countFrom p (n - p) ≡ p ∷ countFrom (p + 1) (n - (p + 1))

@@ -3,10 +3,10 @@ use Prim.Native.Nat.{ℕ, _≤_, _<_, max}
 use native.Mathlib.Nat.{suc-ne-zero}
 use native.Mathlib.Omega.{arith}
 use mathlib.Core.Path.{_≡_, refl, sym, ap, _∙_}
-use mathlib.Core.Bool.{Bool, true, false, not, cond, _&&_}
-use mathlib.Core.List.{List, [], _∷_, _++_}
+use mathlib.Core.Bool.{Bool, true, false, not}
+use mathlib.Core.List.{List, [], _∷_}
 use borrow.Author.Tests.{eq-eqb, ne-eqb, lt-ltb, le-ltb}
-use lib.Dec.{eqb, ltb}
+use lib.Dec.{ltb}
 use lib.ListN.{length, getD}
 use lib.Seq.{slice}
 use Rattle.utf8.specs.Lists.{filter, below}
@@ -15,15 +15,13 @@ use Rattle.utf8.proofs.Places.{slice-of}
 use Rattle.utf8.proofs.Valid.{valid-by-prefix}
 use Rattle.model.specs.Model.{Model, TokenList, strings, contents, tokenAt, piecesOf}
 use Rattle.model.specs.Answers.{lowest, placeOf, Outcome, outcome, refused}
-use Rattle.model.specs.Check.{badToken, modelTests, checkNumber, checkOutcome, textTooLong}
+use Rattle.model.specs.Check.{modelTests, checkNumber, checkOutcome, textTooLong}
 use Rattle.model.specs.declared.Answer.{Answer}
 use Rattle.model.proofs.Accepted.{accepted}
 use Rattle.model.proofs.AnswerLaws.{lowest-later, lowest-first, tests-positive, tests-of-check, text-too-long, model-bound, check-refuses, number-checked}
-use Rattle.units.specs.Kinds.{crossings, kindOf, rawPath, hasRawPath}
-use Rattle.units.specs.Units.{markCuts}
+use Rattle.units.specs.Kinds.{kindOf, rawPath, hasRawPath}
 use Rattle.units.specs.Derived.{noting, namedCrossings}
 use Rattle.units.specs.declared.RawPrepend.{RawPrepend}
-use Rattle.units.specs.declared.RawPath.{RawPath}
 use Rattle.units.specs.declared.RawPath.the-variants.{Absent, Present}
 use Rattle.units.proofs.DerivedLaws.{marks-derived, fit-accepted, piece-sizes-fine, accepted-sizes}
 use Rattle.prepare.specs.Layout.{kindAt, crossingCountAt, crossingsAt, markIdAt, firstTokensAt, secondTokensAt, longestContentAt}
@@ -31,12 +29,12 @@ use Rattle.prepare.specs.Numbers.{kindFrom}
 use Rattle.prepare.specs.Prepare.{derivedIndex}
 use Rattle.prepare.proofs.ReadLaws.{kind-read, count-read, crossings-at, longest-at}
 use Rattle.prepare.proofs.PreparedLaws.{first-begins}
-use Rattle.sections.specs.Beginnings.{beginnings, longestContent}
+use Rattle.sections.specs.Beginnings.{beginnings}
 use Rattle.sections.proofs.LengthLaws.{none-longer}
 use Rattle.fragments.specs.Safe.{isUnguarded, blocks, blockStart, blockEnd, block, blockedBy, isBlocked, isSafe}
-use Rattle.fragments.specs.Fragments.{cutsFrom, cuts, ranges, rangeNumbers, fragmentsNumber, fragmentsOutcome}
-use Rattle.fragments.specs.inner.Reach.{tokensOf, Fine, Longest, blockedIn}
-use Rattle.fragments.specs.inner.Search.{safeIn, Given, cutsIn, numbersIn, rangesOutcome}
+use Rattle.fragments.specs.Fragments.{cuts, ranges, rangeNumbers, fragmentsNumber, fragmentsOutcome}
+use Rattle.fragments.specs.inner.Reach.{tokensOf, Longest, blockedIn, Given}
+use Rattle.fragments.specs.inner.Search.{safeIn, cutsIn, numbersIn, rangesOutcome}
 use Rattle.fragments.proofs.FinishLaws.{rangesBy, ranges-read}
 
 -- ---- the outcome

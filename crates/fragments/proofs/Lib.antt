@@ -1,4 +1,5 @@
 -- Laws on the definitions of this crate, for its proofs and those of the crates above it.
+pub mod ChoiceLaws
 pub mod Bounded
 pub mod WhiteLaws
 pub mod BlockLaws

@@ -2,13 +2,12 @@
 use Prim.Native.Nat.{ℕ, suc, _+_, _-_, _≤_, _<_}
 use native.Mathlib.Omega.{arith}
 use mathlib.Core.Path.{_≡_, refl, sym, ap, _∙_}
-use mathlib.Core.Bool.{Bool, true, false}
+use mathlib.Core.Bool.{false}
 use mathlib.Core.List.{List, [], _∷_, _++_, append-assoc}
 use lib.ListN.{length, take, drop, getD, set, length-append, length-drop}
 use lib.Seq.{length-take-le, drop-cons, set-split, set-at}
-use Rattle.utf8.specs.Chars.{valid}
-use Rattle.fragments.specs.inner.Reach.{Edge, Fine, blockedAhead, reach}
-use Rattle.fragments.specs.inner.Search.{firstFrom, safeIn, Known, NextCut, cutsIn, numbersIn}
+use Rattle.fragments.specs.inner.Reach.{Fine, reach}
+use Rattle.fragments.specs.inner.Search.{safeIn, cutsIn, numbersIn}
 use Rattle.fragments.specs.declared.Cut.{Cut}
 use Rattle.fragments.proofs.BlockLaws.{valid-edge}
 use Rattle.fragments.proofs.FirstLaws.{First, first-at, first-ended}
@@ -37,7 +36,7 @@ module _ (o : Over) where
     after = cutsAfter (safeOver o) n step
 
     -- What a cut found says of the cuts behind the last.
-    module _ (last : ℕ) (cut : Cut) (next : NextOver o (last + step) cut) where
+    module _ (last : ℕ) {cut : Cut} (next : NextOver o (last + step) cut) where
       cutting : Cutting (safeOver o) n step (cut .place) (after last)
       cutting = cut-next (safeOver o) n step pos last (cut .place) (next .is)
 
@@ -79,18 +78,18 @@ module _ (o : Over) where
     counting-start fine =
         record { within = omega arith; known = known-start fine; few = omega arith; sum = omega (arith, ap length (cuts-start (safeOver o) n step unsafe-start)) }
 
-    module _ (cuts last ahead : ℕ) (cut : Cut) (c : Counting cuts last ahead) (next : NextOver o (last + step) cut) where
+    module _ {cuts last ahead : ℕ} {cut : Cut} (c : Counting cuts last ahead) (next : NextOver o (last + step) cut) where
       pub counting-next : cut .place < n → Counting (cuts + 1) (cut .place) (cut .ahead)
       counting-next h =
           record {
             within = omega arith;
-            known = known-next last cut next h;
-            few = omega (arith, c .few, cut-beyond last cut next h);
-            sum = omega (arith, c .sum, ap length (cut-one last cut next h));
+            known = known-next last next h;
+            few = omega (arith, c .few, cut-beyond last next h);
+            sum = omega (arith, c .sum, ap length (cut-one last next h));
           }
 
       pub counting-done : n ≤ cut .place → cuts ≡ length (cutsIn (safeOver o) n step)
-      counting-done h = omega (arith, c .sum, ap length (cut-none last cut next h))
+      counting-done h = omega (arith, c .sum, ap length (cut-none last next h))
 
     -- ---- writing
 
@@ -107,27 +106,27 @@ module _ (o : Over) where
         record { within = omega arith; known = known-start fine; writing = rw (← numbers-start (safeOver o) n step unsafe-start) (writing-start numbers out h) }
 
     -- A range needs two cells, and there is room.
-    pub ranging-room : (before out : List ℕ) (written last ahead : ℕ) → Ranging before out written last ahead → written + 2 ≤ length out
-    ranging-room before out written last ahead r = omega (arith, r .writing .room, length-numbers n last (after last))
+    pub ranging-room : {before out : List ℕ} {written last ahead : ℕ} → Ranging before out written last ahead → written + 2 ≤ length out
+    ranging-room {last = last} r = omega (arith, r .writing .room, length-numbers n last (after last))
 
-    module _ (before out : List ℕ) (written last ahead : ℕ) (cut : Cut) (r : Ranging before out written last ahead) (next : NextOver o (last + step) cut) (put : List ℕ)
+    module _ {before out : List ℕ} {written last ahead : ℕ} {cut : Cut} (r : Ranging before out written last ahead) (next : NextOver o (last + step) cut) {put : List ℕ}
         (is : put ≡ take written out ++ (last ∷ cut .place ∷ drop (written + 2) out)) where
       pub ranging-next : cut .place < n → Ranging before put (written + 2) (cut .place) (cut .ahead)
       ranging-next h =
           record {
             within = omega arith;
-            known = known-next last cut next h;
-            writing = writing-more numbers before out written last (cut .place) (numbersAfter n (cut .place) (after (cut .place))) put (rw (cut-one last cut next h) at (r .writing)) is;
+            known = known-next last next h;
+            writing = writing-more numbers before out written last (cut .place) (numbersAfter n (cut .place) (after (cut .place))) put (rw (cut-one last next h) at (r .writing)) is;
           }
 
       pub ranging-long : length put ≡ length before
       ranging-long =
-          omega (arith, ap length is, length-append (take written out) (last ∷ cut .place ∷ drop (written + 2) out), length-take-le written out (omega (arith, ranging-room before out written last ahead r)), length-drop (written + 2) out, ranging-room before out written last ahead r, r .writing .long)
+          omega (arith, ap length is, length-append (take written out) (last ∷ cut .place ∷ drop (written + 2) out), length-take-le written out (omega (arith, ranging-room r)), length-drop (written + 2) out, ranging-room r, r .writing .long)
 
       last-one : n ≤ cut .place → Writing numbers before put (written + 2) []
       last-one h =
-          let end : cut .place ≡ n = omega (arith, cut-within last cut next) in
-          writing-more numbers before out written last n [] put (rw (cut-none last cut next h) at (r .writing)) (is ∙ ap (λ (p : ℕ). take written out ++ (last ∷ p ∷ drop (written + 2) out)) end)
+          let end : cut .place ≡ n = omega (arith, cut-within last next) in
+          writing-more numbers before out written last n [] put (rw (cut-none last next h) at (r .writing)) (is ∙ ap (λ (p : ℕ). take written out ++ (last ∷ p ∷ drop (written + 2) out)) end)
 
       pub ranging-count : n ≤ cut .place → written + 2 ≡ length numbers
       ranging-count h = written-all numbers before put (written + 2) (last-one h)

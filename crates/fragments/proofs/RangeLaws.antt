@@ -1,6 +1,5 @@
 -- The cuts of a text one after the other, and the numbers of the ranges between them. Assumes nothing.
 use Prim.Native.Nat.{ℕ, zero, suc, _+_, _-_, _≤_, _<_, max}
-use native.Mathlib.Numerals.{add-one}
 use native.Mathlib.Omega.{arith}
 use mathlib.Core.Path.{_≡_, refl, sym, ap, _∙_}
 use mathlib.Core.Bool.{Bool, true, false, cond}
@@ -8,12 +7,12 @@ use mathlib.Core.Logic.{⊎-elim}
 use mathlib.Core.List.{List, [], _∷_, _++_, append-assoc, append-nil}
 use borrow.Author.Tests.{leb-true, leb-false}
 use lib.Dec.{leb}
-use lib.ListN.{length, take, drop, length-append, length-take, length-drop, take-append-drop}
+use lib.ListN.{length, take, drop, length-append, length-drop, take-append-drop}
 use lib.Seq.{length-take-le, take-append-add, drop-append-add, drop-drop}
-use Rattle.utf8.specs.Lists.{filter, neighboursFrom, neighbours, joinMap, below, countFrom}
+use Rattle.utf8.specs.Lists.{filter, neighboursFrom, joinMap, countFrom}
 use Rattle.fragments.specs.Fragments.{cutsFrom}
 use Rattle.fragments.specs.inner.Search.{firstFrom, cutsIn, numbersIn}
-use Rattle.fragments.proofs.Bounded.{lt-or-le}
+use Rattle.fragments.proofs.ChoiceLaws.{lt-or-le}
 use Rattle.fragments.proofs.FirstLaws.{first-found, first-next, first-ended}
 
 module _ (safe : ℕ → Bool) (n step : ℕ) where

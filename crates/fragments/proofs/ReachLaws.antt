@@ -1,23 +1,23 @@
 -- How far blocks reach, by where tokens end: of those with rstrip the furthest end decides, with the white space behind it, and tokens that
 -- lie too far back do not matter. Assumes nothing.
-use Prim.Native.Nat.{ℕ, suc, _+_, _-_, _≤_, _<_, max}
+use Prim.Native.Nat.{ℕ, _+_, _-_, _≤_, _<_, max}
 use native.Mathlib.Omega.{arith}
 use mathlib.Core.Path.{_≡_, refl, sym, ap, _∙_}
-use mathlib.Core.Bool.{Bool, true, false, not, cond, _&&_}
-use mathlib.Core.Logic.{_⊎_, inl, inr, ⊎-elim}
+use mathlib.Core.Bool.{Bool, true, false, cond, _&&_}
+use mathlib.Core.Logic.{_⊎_, ⊎-elim}
 use mathlib.Core.List.{List}
 use borrow.Author.Tests.{ltb-true, lt-ltb, le-leb, lt-leb, not-true}
 use lib.Dec.{leb, ltb}
 use lib.ListN.{length}
-use Rattle.utf8.proofs.Tests.{either, clash, and-left, and-right, and-both}
+use Rattle.utf8.proofs.Tests.{either, and-left, and-right, and-both}
 use Rattle.model.specs.Model.{TokenList, contents, tokenAt}
-use Rattle.sections.specs.Sections.{whiteLength}
 use Rattle.sections.specs.inner.Strips.{stopAt}
 use Rattle.fragments.specs.Safe.{blocks, blockEnd}
 use Rattle.fragments.specs.inner.Reach.{Edge, Fine, Longest, isAs, standsAt, plainFar, stripFar, furthest, reach, endOf, endAt, endBetween}
-use Rattle.fragments.proofs.Bounded.{lt-or-le, Greatest, most-here, most-below, most-where}
+use Rattle.fragments.proofs.ChoiceLaws.{lt-or-le, chosen, positive}
+use Rattle.fragments.proofs.Bounded.{most-here, most-where}
 use Rattle.fragments.proofs.WhiteLaws.{trimmed, whiteEnd, trimmed-le, trims-behind, same-end, stops-at}
-use Rattle.fragments.proofs.BlockLaws.{Standing, standing, Occurs, Furthest, positive, chosen, reach-here, reach-where}
+use Rattle.fragments.proofs.BlockLaws.{Standing, standing, Occurs, reach-here, reach-where}
 
 module _ (unguarded : Bool) (t : TokenList) (text : List ℕ) where
   abbrev end : ℕ → ℕ → ℕ

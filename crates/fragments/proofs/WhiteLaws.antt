@@ -1,16 +1,16 @@
 -- White space between two places of a text: what the one has behind it, the other has before it. Assumes nothing.
-use Prim.Native.Nat.{ℕ, suc, _+_, _-_, _≤_, _<_, max}
+use Prim.Native.Nat.{ℕ, _+_, _-_, _≤_, _<_, max}
 use native.Mathlib.Omega.{arith}
 use mathlib.Core.Path.{_≡_, refl, sym, ap, _∙_}
 use mathlib.Core.Bool.{Bool, true, false, not, cond, _&&_}
-use mathlib.Core.Logic.{_⊎_, inl, inr, ⊎-elim}
+use mathlib.Core.Logic.{_⊎_, ⊎-elim}
 use mathlib.Core.List.{List, [], _∷_, _++_, reverse, reverse-append, reverse-reverse, append-nil}
 use lib.ListN.{length, take, drop, length-append, length-take, length-drop, take-append-drop}
-use lib.Seq.{slice, length-take-le, take-take, drop-append-le, length-slice}
+use lib.Seq.{slice, length-take-le, take-take, drop-append-le}
 use Rattle.utf8.specs.Lists.{isEmpty, all, dropWhile, join}
 use Rattle.utf8.specs.Chars.{tail, hasForm, chars}
 use Rattle.utf8.specs.WhiteSpace.{isWhite, trimStart, trimEnd}
-use Rattle.utf8.proofs.Tests.{either, clash, and-left, and-right, and-both}
+use Rattle.utf8.proofs.Tests.{either, clash, and-left, and-right}
 use Rattle.utf8.proofs.Lists.{all-append, join-append}
 use Rattle.utf8.proofs.Elements.{not-empty-long}
 use Rattle.utf8.proofs.Characters.{chars-append, join-chars}
@@ -72,9 +72,6 @@ starts-front [] c e = refl
 starts-front (x ∷ b) c e = e
 
 module _ (a b c : List ℕ) (eb : hasForm (tail ∷ []) (b ++ c) ≡ false) (ec : hasForm (tail ∷ []) c ≡ false) where
-  whites : List (List ℕ)
-  whites = chars b
-
   start-white : all isWhite (chars b) ≡ true → trimStart (b ++ c) ≡ trimStart c
   unfolding trimStart
   start-white e = ap (λ (cs : List (List ℕ)). join (dropWhile isWhite cs)) (chars-append b c ec) ∙ ap join (drop-all isWhite (chars b) (chars c) e)

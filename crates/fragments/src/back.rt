@@ -8,9 +8,7 @@ ghost use mathlib.Core.Bool.{cond};
 ghost use Prim.Native.Nat.{_-_, _≤_, max};
 ghost use lib.Dec.{leb};
 ghost use lib.ListN.{length};
-ghost use Rattle.model.specs.Model.{contents};
-ghost use Rattle.sections.specs.Beginnings.{beginnings};
-ghost use Rattle.fragments.specs.inner.Reach.{tokensOf, Edge, Fine, Longest, plainFar, stripFar, furthest, reach};
+ghost use Rattle.fragments.specs.inner.Reach.{tokensOf, Edge, Given, plainFar, stripFar, furthest, reach};
 
 // The place `longest` before `stop`, but no further back than `at`.
 fn back_from(at: usize, stop: usize, longest: usize) -> usize
@@ -83,9 +81,7 @@ pub fn look_back(
 ) -> usize
     requires { ⌜ (at ≤ p) × (p ≤ length (now text)) ⌝ }
     requires { ⌜ Edge (now text) at × Edge (now text) p ⌝ }
-    requires { ⌜ now begins ≡ beginnings (contents (tokensOf (now bytes) (now offsets) (now lstrip) (now rstrip))) (length (now begins)) ⌝ }
-    requires { ⌜ Longest (tokensOf (now bytes) (now offsets) (now lstrip) (now rstrip)) longest ⌝ }
-    requires { ⌜ Fine (tokensOf (now bytes) (now offsets) (now lstrip) (now rstrip)) (now text) ⌝ }
+    requires { ⌜ Given (tokensOf (now bytes) (now offsets) (now lstrip) (now rstrip)) (now begins) longest (now text) ⌝ }
     ensures { λ r. ⌜ r ≡ cond (leb p (reach unguarded (tokensOf (now (bytes .entry)) (now (offsets .entry)) (now (lstrip .entry)) (now (rstrip .entry))) (now (text .entry)) at p)) (reach unguarded (tokensOf (now (bytes .entry)) (now (offsets .entry)) (now (lstrip .entry)) (now (rstrip .entry))) (now (text .entry)) at p) 0 ⌝ }
 {
     let stop = stop_before(true, text, at, p);
@@ -96,6 +92,7 @@ pub fn look_back(
         lstrip,
         rstrip,
         begins,
+        longest,
         unguarded,
         false,
         text,
@@ -108,6 +105,7 @@ pub fn look_back(
         lstrip,
         rstrip,
         begins,
+        longest,
         unguarded,
         true,
         text,

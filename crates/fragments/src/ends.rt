@@ -6,16 +6,13 @@ use sections::first::may_begin;
 use sections::strips::flag_at;
 use utf8::edges::starts_with;
 ghost use mathlib.Core.Path.{_≡_};
-ghost use mathlib.Core.Bool.{false, _||_};
-ghost use Prim.Native.Nat.{ℕ, _≤_, max};
-ghost use lib.Dec.{eqb};
+ghost use mathlib.Core.Bool.{_||_};
+ghost use Prim.Native.Nat.{ℕ, _+_, _≤_, max};
+ghost use lib.Dec.{eqb, ltb};
 ghost use lib.ListN.{length};
 ghost use Rattle.utf8.specs.Lists.{any};
-ghost use Rattle.model.specs.Check.{badToken};
-ghost use Rattle.model.specs.Model.{contents};
-ghost use Rattle.sections.specs.Beginnings.{beginnings};
 ghost use Rattle.fragments.specs.Safe.{blocks};
-ghost use Rattle.fragments.specs.inner.Reach.{tokensOf, isAs, endOf, endAt, endBetween};
+ghost use Rattle.fragments.specs.inner.Reach.{tokensOf, isAs, Given, endOf, endAt, endBetween};
 
 // Whether a content has a space in it or the first byte of a mark.
 fn holds_space(content: &[u8]) -> bool
@@ -132,13 +129,28 @@ fn end_at(
     far
 }
 
-// The furthest such end of all that stand from `from` up to `to`.
+// Whether a token at `s` can end beyond `far`.
+fn may_reach(s: usize, longest: usize, far: usize) -> bool
+    ensures { λ r. ⌜ r ≡ ltb far (s + longest) ⌝ }
+{
+    if far < longest {
+        return true;
+    }
+    if far - longest < s {
+        return true;
+    }
+    false
+}
+
+// The furthest such end of all that stand from `from` up to `to`. The places are walked back from the last, as long as a token there can
+// end further on.
 pub fn end_between(
     bytes: &[u8],
     offsets: &[u32],
     lstrip: &[bool],
     rstrip: &[bool],
     begins: &[u32],
+    longest: usize,
     unguarded: bool,
     strip: bool,
     text: &[u8],
@@ -146,21 +158,21 @@ pub fn end_between(
     to: usize,
 ) -> usize
     requires { ⌜ to ≤ length (now text) ⌝ }
-    requires { ⌜ now begins ≡ beginnings (contents (tokensOf (now bytes) (now offsets) (now lstrip) (now rstrip))) (length (now begins)) ⌝ }
-    requires { ⌜ badToken (contents (tokensOf (now bytes) (now offsets) (now lstrip) (now rstrip))) ≡ false ⌝ }
+    requires { ⌜ Given (tokensOf (now bytes) (now offsets) (now lstrip) (now rstrip)) (now begins) longest (now text) ⌝ }
     ensures { λ r. ⌜ r ≡ endBetween unguarded (tokensOf (now (bytes .entry)) (now (offsets .entry)) (now (lstrip .entry)) (now (rstrip .entry))) (now (text .entry)) strip from to ⌝ }
 {
     let mut far = 0;
-    let mut s = from;
-    while s < to {
+    let mut s = to;
+    while from < s {
+        s -= 1;
+        if !may_reach(s, longest, far) {
+            return far;
+        }
         if may_begin(begins, text[s]) {
             far = greater(
                 far,
                 end_at(bytes, offsets, lstrip, rstrip, unguarded, strip, text, s),
             );
-            s += 1;
-        } else {
-            s += 1;
         }
     }
     far

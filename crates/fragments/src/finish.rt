@@ -11,8 +11,8 @@ ghost use lib.ListN.{length, take};
 ghost use Rattle.model.specs.Answers.{zeros, Outcome};
 ghost use Rattle.model.specs.Model.{strings};
 ghost use Rattle.units.specs.Derived.{namedCrossings};
-ghost use Rattle.fragments.specs.inner.Reach.{tokensOf};
-ghost use Rattle.fragments.specs.inner.Search.{safeIn, Given, numbersIn, rangesOutcome};
+ghost use Rattle.fragments.specs.inner.Reach.{tokensOf, Given};
+ghost use Rattle.fragments.specs.inner.Search.{safeIn, numbersIn, rangesOutcome};
 
 // Zeros from `start` to the buffer's end.
 fn clear_from(out: &mut [u32], start: usize)

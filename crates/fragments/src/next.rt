@@ -15,8 +15,8 @@ ghost use lib.ListN.{length};
 ghost use Rattle.model.specs.Model.{strings};
 ghost use Rattle.units.specs.Units.{markCuts};
 ghost use Rattle.units.specs.Derived.{namedCrossings};
-ghost use Rattle.fragments.specs.inner.Reach.{tokensOf, Edge};
-ghost use Rattle.fragments.specs.inner.Search.{firstFrom, Given, Known, Judged, NextCut};
+ghost use Rattle.fragments.specs.inner.Reach.{tokensOf, Edge, Given};
+ghost use Rattle.fragments.specs.inner.Search.{firstFrom, Known, Judged, NextCut};
 
 // Whether the byte is a space or begins a mark.
 fn may_cut(b: u8) -> bool

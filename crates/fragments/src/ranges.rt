@@ -8,8 +8,8 @@ ghost use Prim.Native.Nat.{_+_, _≤_, _<_};
 ghost use lib.ListN.{length, take, drop};
 ghost use Rattle.model.specs.Model.{strings};
 ghost use Rattle.units.specs.Derived.{namedCrossings};
-ghost use Rattle.fragments.specs.inner.Reach.{tokensOf};
-ghost use Rattle.fragments.specs.inner.Search.{safeIn, Given, Known, NextCut, cutsIn, numbersIn};
+ghost use Rattle.fragments.specs.inner.Reach.{tokensOf, Given};
+ghost use Rattle.fragments.specs.inner.Search.{safeIn, Known, NextCut, cutsIn, numbersIn};
 
 // The first safe place that is at least `step` behind the last cut, or the end of the text.
 fn cut_after(

@@ -18,8 +18,8 @@ ghost use Rattle.units.specs.declared.RawPath.the-variants as path;
 ghost use Rattle.prepare.specs.Layout.{kindAt, crossingCountAt, crossingsAt, markIdAt, firstTokensAt, secondTokensAt, longestContentAt};
 ghost use Rattle.prepare.specs.Numbers.{kindFrom};
 ghost use Rattle.fragments.specs.Safe.{isUnguarded};
-ghost use Rattle.fragments.specs.inner.Reach.{tokensOf};
-ghost use Rattle.fragments.specs.inner.Search.{safeIn, Given, numbersIn, rangesOutcome};
+ghost use Rattle.fragments.specs.inner.Reach.{tokensOf, Given};
+ghost use Rattle.fragments.specs.inner.Search.{safeIn, numbersIn, rangesOutcome};
 
 fn is_unguarded(prepend: RawPrepend) -> bool
     ensures { λ r. ⌜ r ≡ isUnguarded (path.Present prepend) ⌝ }

@@ -1,5 +1,5 @@
 -- `fragments::fragments_prepared` meets its contract: by the first test that applies, and then by the path that the index tells.
-use mathlib.Core.Path.{_≡_, sym, ap, _∙_}
+use mathlib.Core.Path.{_≡_, sym, _∙_}
 use borrow.Author.Needs.{needs}
 use Rattle.model.specs.Model.{modelOf, tokenList, piecesOf}
 use Rattle.units.specs.Kinds.{rawPath}

@@ -9,6 +9,7 @@ use Rattle.utf8.specs.Lists.{any, below, countFrom, startsWith}
 use Rattle.utf8.specs.Chars.{tail, hasForm, valid}
 use Rattle.model.specs.Model.{TokenList, tokenList, contents, tokenAt}
 use Rattle.model.specs.Check.{badToken}
+use Rattle.sections.specs.Beginnings.{beginnings}
 use Rattle.sections.specs.Sections.{whiteLength}
 use Rattle.fragments.specs.Safe.{blocks, blockEnd, blockedBy}
 use Rattle.fragments.specs.inner.Most.{most}
@@ -33,6 +34,12 @@ pub record Fine (t : TokenList) (text : List ℕ) : Type 0 where
 -- No content is longer than that.
 pub record Longest (t : TokenList) (n : ℕ) : Type 0 where
   pub bounds : (row : ℕ) → row < length (contents t) → length (tokenAt t row .content) ≤ n
+
+-- What is given with the tokens of a list: for each byte whether a content begins with it, and how long contents are at most.
+pub record Given (t : TokenList) (begins : List ℕ) (longest : ℕ) (text : List ℕ) : Type 0 where
+  pub fine : Fine t text
+  pub first : begins ≡ beginnings (contents t) (length begins)
+  pub long : Longest t longest
 
 -- Where a block ends, by where its token ends: without rstrip, and with it, if the token reaches the white space that begins at stop.
 unfoldable pub plainFar : Bool → ℕ → ℕ

@@ -8,13 +8,12 @@ use lib.Dec.{ltb}
 use lib.ListN.{length}
 use Rattle.utf8.specs.Lists.{find, filter, neighbours, joinMap, below, countFrom}
 use Rattle.model.specs.Answers.{Outcome, outcome, done}
-use Rattle.model.specs.Model.{TokenList, contents}
+use Rattle.model.specs.Model.{TokenList}
 use Rattle.units.specs.Kinds.{Crossing}
 use Rattle.units.specs.Units.{markCuts}
 use Rattle.units.specs.declared.WordSplit.{WordSplit}
-use Rattle.sections.specs.Beginnings.{beginnings}
 use Rattle.fragments.specs.Fragments.{cutsFrom}
-use Rattle.fragments.specs.inner.Reach.{Edge, Fine, Longest, blockedAhead, blockedIn, reach}
+use Rattle.fragments.specs.inner.Reach.{Edge, blockedAhead, blockedIn, reach}
 use Rattle.fragments.specs.declared.Verdict.{Verdict}
 use Rattle.fragments.specs.declared.Verdict.the-variants.{Blocked, Free}
 use Rattle.fragments.specs.declared.Cut.{Cut}
@@ -30,12 +29,6 @@ firstFrom test n p = placeOr n (find test (countFrom p (n - p)))
 -- A safe place, by what decides it: the kind, the crossings, whether the path is Unguarded, the tokens.
 unfoldable pub safeIn : WordSplit → List Crossing → Bool → TokenList → List ℕ → ℕ → Bool
 safeIn kind noted unguarded t text p = ltb 0 p && markCuts kind noted true text p && not (blockedIn unguarded t text p)
-
--- What is given with the tokens of a list: for each byte whether a content begins with it, and how long contents are at most.
-pub record Given (t : TokenList) (begins : List ℕ) (longest : ℕ) (text : List ℕ) : Type 0 where
-  pub fine : Fine t text
-  pub first : begins ≡ beginnings (contents t) (length begins)
-  pub long : Longest t longest
 
 -- Before p: no block of what stands before the place at reaches p, and from at up to ahead no place has a token ahead.
 pub record Known (unguarded : Bool) (t : TokenList) (text : List ℕ) (at ahead p : ℕ) : Type 0 where

@@ -1,7 +1,7 @@
 -- `fragments::ahead::strips_at` meets its contract. The loop's invariant: what all rows say, those from `row` on say.
-use mathlib.Core.Path.{_≡_, sym, ap, _∙_}
+use mathlib.Core.Path.{_≡_, sym, _∙_}
 use mathlib.Core.Bool.{Bool, true, false}
-use mathlib.Core.List.{List, []}
+use mathlib.Core.List.{[]}
 use Prim.Native.Nat.{ℕ, _-_, _≤_}
 use borrow.Author.Needs.{needs}
 use lib.ListN.{length, drop, getD}
@@ -10,9 +10,10 @@ use Rattle.utf8.proofs.Tests.{and-both}
 use Rattle.model.specs.Model.{strings}
 use Rattle.model.proofs.StringLaws.{length-strings}
 use Rattle.fragments.specs.inner.Reach.{tokensOf, stripsAt}
+use Rattle.fragments.proofs.ChoiceLaws.{second-false}
 use Rattle.fragments.proofs.Bounded.{any-step, any-stop}
 use Rattle.fragments.proofs.EndLaws.{same-start}
-use Rattle.fragments.proofs.AheadLaws.{second-false, stripping, strips-by-rows}
+use Rattle.fragments.proofs.AheadLaws.{stripping, strips-by-rows}
 use Rattle.fragments.proofs.ahead.strips_at.Statement.{statement}
 use Rattle.fragments.proofs.ahead.strips_at.Tie as tie
 

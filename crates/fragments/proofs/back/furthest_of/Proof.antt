@@ -1,10 +1,8 @@
 -- `fragments::back::furthest_of` meets its contract.
-use mathlib.Core.Path.{_≡_, sym, ap, ap₂, _∙_}
-use mathlib.Core.Bool.{cond}
-use Prim.Native.Nat.{ℕ, max}
+use mathlib.Core.Path.{_≡_, sym, ap₂, _∙_}
+use Prim.Native.Nat.{max}
 use borrow.Author.Needs.{needs}
 use borrow.Author.Tests.{le-leb, lt-leb}
-use lib.Dec.{leb}
 use Rattle.fragments.specs.inner.Reach.{furthest}
 use Rattle.fragments.proofs.back.furthest_of.Statement.{statement}
 use Rattle.fragments.proofs.back.furthest_of.Tie as tie

@@ -21,12 +21,10 @@ back-from-requires : tie.Need-back-from-requires
 back-from-requires c κs = search needs
 
 end-between-requires : tie.Need-end-between-requires
-end-between-requires c κs = let s = start (c .before .before) in
-    (s .pre .0 .1, (s .pre .1 .1 .0, s .pre .1 .1 .1 .1 .contents-fine))
+end-between-requires c κs = let s = start (c .before .before) in (s .pre .0 .1, s .pre .1 .1)
 
 end-between-requires-2 : tie.Need-end-between-requires-2
-end-between-requires-2 c κs = let s = start (c .before .before .before) in
-    (s .pre .0 .1, (s .pre .1 .1 .0, s .pre .1 .1 .1 .1 .contents-fine))
+end-between-requires-2 c κs = let s = start (c .before .before .before) in (s .pre .0 .1, s .pre .1 .1)
 
 furthest-of-requires : tie.Need-furthest-of-requires
 furthest-of-requires c κs = search needs
@@ -38,7 +36,7 @@ returns c = let e = c .before .before in
     let s = start k in
     let a = s .args in
     c .furthest-of .ensures
-    ∙ found-back (a .unguarded) (tokens k) (a .text .now) (s .pre .1 .1 .1 .1) (a .longest) (s .pre .1 .1 .1 .0) (a .at) (a .p) (s .pre .0 .0) (s .pre .0 .1) (s .pre .1 .0 .0) (s .pre .1 .0 .1)
+    ∙ found-back (a .unguarded) (tokens k) (a .text .now) (s .pre .1 .1 .fine) (a .longest) (s .pre .1 .1 .long) (a .at) (a .p) (s .pre .0 .0) (s .pre .0 .1) (s .pre .1 .0 .0) (s .pre .1 .0 .1)
     _ _ _ _ (b .before .stop-before .ensures) (b .back-from .ensures) (e .end-between .ensures) (c .before .end-between2 .ensures)
 
 pub look-back-spec : {M : Type 1} → statement M

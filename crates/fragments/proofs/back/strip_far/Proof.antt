@@ -7,9 +7,7 @@ use lib.Dec.{ltb}
 use Rattle.utf8.proofs.Tests.{and-both}
 use Rattle.sections.specs.inner.Strips.{startAt}
 use Rattle.fragments.specs.inner.Reach.{stripFar}
-use Rattle.fragments.proofs.AheadLaws.{second-false}
-use Rattle.fragments.proofs.BlockLaws.{chosen}
-use Rattle.fragments.proofs.EndLaws.{not-chosen}
+use Rattle.fragments.proofs.ChoiceLaws.{second-false, chosen, not-chosen}
 use Rattle.fragments.proofs.back.strip_far.Statement.{statement}
 use Rattle.fragments.proofs.back.strip_far.Tie as tie
 

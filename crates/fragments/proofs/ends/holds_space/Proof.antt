@@ -1,5 +1,5 @@
 -- `fragments::ends::holds_space` meets its contract. The loop's invariant: what all bytes say, those from `i` on say.
-use mathlib.Core.Path.{_≡_, refl, sym, _∙_}
+use mathlib.Core.Path.{_≡_, sym, _∙_}
 use mathlib.Core.Bool.{Bool, _||_}
 use Prim.Native.Nat.{ℕ, _-_}
 use borrow.Author.Needs.{needs}

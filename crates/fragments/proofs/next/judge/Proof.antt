@@ -1,9 +1,8 @@
 -- `fragments::next::judge` meets its contract.
 use mathlib.Core.Path.{_≡_, sym, ap, _∙_}
 use mathlib.Core.Bool.{Bool}
-use mathlib.Core.List.{List, []}
-use mathlib.Core.Option.{Option, none, some}
-use Prim.Native.Nat.{ℕ, _<_, _≤_}
+use mathlib.Core.List.{List}
+use Prim.Native.Nat.{ℕ, _<_}
 use native.Mathlib.Omega.{arith}
 use borrow.Author.Needs.{needs}
 use lib.ListN.{length}
@@ -14,7 +13,7 @@ use Rattle.sections.specs.Beginnings.{beginnings}
 use Rattle.sections.specs.inner.Strips.{startAt}
 use Rattle.fragments.specs.inner.Reach.{tokensOf, placesAhead, stripsAt, reach}
 use Rattle.fragments.proofs.WhiteLaws.{whiteEnd-le}
-use Rattle.fragments.proofs.SearchLaws.{strips-left, contents-left, fine-left, judged-back, not-back, judged-kept, judged-ahead, judged-free}
+use Rattle.fragments.proofs.SearchLaws.{Looking, strips-left, contents-left, fine-left, judged-back, not-back, judged-kept, judged-ahead, judged-free}
 use Rattle.fragments.proofs.next.judge.Statement.{statement}
 use Rattle.fragments.proofs.next.judge.Tie as tie
 
@@ -28,12 +27,18 @@ tokens c = let a = start c .args in tokensOf (a .bytes .now) (a .offsets .now) (
 abbrev text : tie.After-shared-slice-known6 → List ℕ
 text c = start c .args .text .now
 
+-- the place that is judged
+looking : (c : tie.After-shared-slice-known6) → Looking (start c .args .unguarded) (tokens c) (text c) (start c .args .at) (start c .args .ahead) (start c .args .p)
+looking c =
+    let s = start c in
+    record { fine = s .pre .1 .1 .0 .fine; above = s .pre .0 .0; inside = s .pre .0 .1; edge = s .pre .1 .0; known = s .pre .1 .1 .1 }
+
 -- nothing reaches the place from before it
 short : (c : tie.Else1) → (let k = c .before .before in reach (start k .args .unguarded) (tokens k) (text k) 0 (start k .args .p) < start k .args .p)
 short c =
     let k = c .before .before in
     let s = start k in
-    not-back (s .args .unguarded) (tokens k) (text k) (s .pre .1 .1 .0 .fine) (s .args .at) (s .args .ahead) (s .args .p) (s .pre .0 .0) (s .pre .0 .1) (s .pre .1 .0) (s .pre .1 .1 .1) (c .before .look-back .result) (c .before .look-back .ensures) (c .if1 .left)
+    not-back (looking k) (c .before .look-back .result) (c .before .look-back .ensures) (c .if1 .left)
 
 -- what the search ahead finds
 found : (c : tie.After-strip-ahead) → (let k = c .before .before .before .before in find (stripsAt (tokens k) (text k)) (placesAhead (text k) (start k .args .p)) ≡ foundId (c .strip-ahead .result))
@@ -46,17 +51,17 @@ look-back-requires : tie.Need-look-back-requires
 look-back-requires c κs = let s = start c in
     let g = s .pre .1 .1 .0 in
     let n = s .pre .1 .1 .1 in
-    ((n .low, omega (arith, s .pre .0 .1)), ((n .edge, s .pre .1 .0), (g .first, (g .long, g .fine))))
+    ((n .low, omega (arith, s .pre .0 .1)), ((n .edge, s .pre .1 .0), g))
 
 returns : tie.Need-returns
 returns c = let k = c .before .before in
     let s = start k in
-    judged-back (s .args .unguarded) (tokens k) (text k) (s .pre .1 .1 .0 .fine) (s .args .at) (s .args .ahead) (s .args .p) (s .pre .0 .0) (s .pre .0 .1) (s .pre .1 .0) (s .pre .1 .1 .1) (c .before .look-back .result) (c .before .look-back .ensures) (c .if1 .taken)
+    judged-back (looking k) (c .before .look-back .result) (c .before .look-back .ensures) (c .if1 .taken)
 
 returns-2 : tie.Need-returns-2
 returns-2 c = let k = c .before .before .before in
     let s = start k in
-    judged-kept (s .args .unguarded) (tokens k) (text k) (s .pre .1 .1 .0 .fine) (s .args .at) (s .args .ahead) (s .args .p) (s .pre .0 .0) (s .pre .0 .1) (s .pre .1 .0) (s .pre .1 .1 .1) (short (c .before)) (c .if2 .taken)
+    judged-kept (looking k) (short (c .before)) (c .if2 .taken)
 
 strip-ahead-requires : tie.Need-strip-ahead-requires
 strip-ahead-requires c κs = let k = c .before .before .before in
@@ -84,13 +89,13 @@ returns-3 : tie.Need-returns-3
 returns-3 c = let w = c .before .before .before in
     let k = w .before .before .before .before in
     let s = start k in
-    judged-ahead (s .args .unguarded) (tokens k) (text k) (s .pre .1 .1 .0 .fine) (s .args .at) (s .args .ahead) (s .args .p) (s .pre .0 .0) (s .pre .0 .1) (s .pre .1 .0) (s .pre .1 .1 .1) (short (w .before .before)) _ (found w ∙ ap foundId (c .before .s .given .1))
+    judged-ahead (looking k) (short (w .before .before)) _ (found w ∙ ap foundId (c .before .s .given .1))
 
 returns-4 : tie.Need-returns-4
 returns-4 c = let w = c .before .before .before in
     let k = w .before .before .before .before in
     let s = start k in
-    judged-free (s .args .unguarded) (tokens k) (text k) (s .pre .1 .1 .0 .fine) (s .args .at) (s .args .ahead) (s .args .p) (s .pre .0 .0) (s .pre .0 .1) (s .pre .1 .0) (s .pre .1 .1 .1) (short (w .before .before)) (c .start-after .result) (found w ∙ ap foundId (c .before .enum-told .given .1)) (c .start-after .ensures)
+    judged-free (looking k) (short (w .before .before)) (c .start-after .result) (found w ∙ ap foundId (c .before .enum-told .given .1)) (c .start-after .ensures)
 
 pub judge-spec : {M : Type 1} → statement M
 judge-spec =

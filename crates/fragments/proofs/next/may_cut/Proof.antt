@@ -1,5 +1,4 @@
 -- `fragments::next::may_cut` meets its contract.
-use borrow.Author.Needs.{needs}
 use borrow.Author.Tests.{eq-eqb, ne-eqb}
 use Rattle.fragments.proofs.next.may_cut.Statement.{statement}
 use Rattle.fragments.proofs.next.may_cut.Tie as tie

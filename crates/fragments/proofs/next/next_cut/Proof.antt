@@ -1,8 +1,6 @@
 -- `fragments::next::next_cut` meets its contract. The loop's invariant is `Searching`; it goes on behind the blocks that have a mark.
-use mathlib.Core.Path.{_≡_, sym, ap, subst, _∙_}
-use mathlib.Core.Bool.{Bool}
-use mathlib.Core.List.{List}
-use Prim.Native.Nat.{ℕ, suc, _+_, _-_, _≤_, _<_}
+use mathlib.Core.Path.{_≡_, subst}
+use Prim.Native.Nat.{suc, _-_}
 use native.Mathlib.Omega.{arith}
 use borrow.Author.Needs.{needs}
 use lib.ListN.{length}
@@ -57,10 +55,10 @@ judge-requires c κs = let m = c .before in
     let s = start t in
     let l = t .search in
     let inside = c .if1 .left in (
-      (mark-above (over t) (s .args .from) (l .at) (l .clear) (l .p) (m .next-mark .result) (l .inv) (m .next-mark .ensures) inside, inside),
+      (mark-above (l .inv) (m .next-mark .ensures) inside, inside),
       (
-        mark-edge (over t) (s .args .from) (l .at) (l .clear) (l .p) (m .next-mark .result) (l .inv) (m .next-mark .ensures) inside,
-        (s .pre .1 .0, mark-known (over t) (s .args .from) (l .at) (l .clear) (l .p) (m .next-mark .result) (l .inv) (m .next-mark .ensures) inside),
+        mark-edge (l .inv) (m .next-mark .ensures) inside,
+        (s .pre .1 .0, mark-known (l .inv) (m .next-mark .ensures) inside),
       ),
     )
 
@@ -80,7 +78,7 @@ search-less c = let j = c .before .before .before in
     let s = start t in
     let l = t .search in
     let b = judged j _ (c .before .end .given .1) in
-    let low = mark-low (over t) (s .args .from) (l .at) (l .clear) (l .p) (m .next-mark .result) (l .inv) (m .next-mark .ensures) (j .before .if1 .left) in
+    let low = mark-low (l .inv) (m .next-mark .ensures) (j .before .if1 .left) in
     omega (arith, b .low, b .high, low)
 
 search-again : tie.Need-search-again Inv-search μ-search
@@ -89,7 +87,7 @@ search-again c = let j = c .before .before .before in
     let t = begun j in
     let s = start t in
     let l = t .search in
-    cut-passed (over t) (s .args .from) (l .at) (l .clear) (l .p) (m .next-mark .result) (l .inv) (m .next-mark .ensures) (j .before .if1 .left) _ (judged j _ (c .before .end .given .1))
+    cut-passed (l .inv) (m .next-mark .ensures) (j .before .if1 .left) _ (judged j _ (c .before .end .given .1))
 
 enum-known-end-2 : tie.Need-enum-known-end-2 Inv-search μ-search
 enum-known-end-2 c = search needs
@@ -99,7 +97,7 @@ returns c = let m = c .before in
     let t = m .before in
     let s = start t in
     let l = t .search in
-    cut-ended (over t) (s .args .from) (l .at) (l .clear) (l .p) (m .next-mark .result) (l .inv) (m .next-mark .ensures) (c .if1 .taken)
+    cut-ended (l .inv) (m .next-mark .ensures) (c .if1 .taken)
 
 returns-2 : tie.Need-returns-2 Inv-search μ-search
 returns-2 c = let j = c .before .before .before in
@@ -107,7 +105,7 @@ returns-2 c = let j = c .before .before .before in
     let t = begun j in
     let s = start t in
     let l = t .search in
-    cut-found (over t) (s .args .from) (l .at) (l .clear) (l .p) (m .next-mark .result) (l .inv) (m .next-mark .ensures) (j .before .if1 .left) _ (judged j _ (c .before .end2 .given .1))
+    cut-found (l .inv) (m .next-mark .ensures) (j .before .if1 .left) _ (judged j _ (c .before .end2 .given .1))
 
 pub next-cut-spec : {M : Type 1} → statement M
 next-cut-spec =

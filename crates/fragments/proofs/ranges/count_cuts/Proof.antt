@@ -1,7 +1,6 @@
 -- `fragments::ranges::count_cuts` meets its contract. The loop's invariant is `Counting`.
 use Prim.Native.Nat.{_-_, _<_}
 use native.Mathlib.Omega.{arith}
-use borrow.Author.Needs.{needs}
 use lib.ListN.{length}
 use Rattle.model.specs.Model.{strings}
 use Rattle.units.specs.Derived.{namedCrossings}
@@ -48,7 +47,7 @@ cut-after-requires c κs = let s = start c in
 returns : tie.Need-returns Inv-loop μ-loop
 returns c = let t = c .before .before .before in
     let l = t .loop in
-    counting-done (over t) (start t .args .step) (start t .pre .0) (l .cuts) (l .last) (l .ahead) (c .before .before .cut-after .result) (counted t) (c .before .before .cut-after .ensures) (c .if1 .taken)
+    counting-done (over t) (start t .args .step) (start t .pre .0) (counted t) (c .before .before .cut-after .ensures) (c .if1 .taken)
 
 add-cuts : tie.Need-add-cuts Inv-loop μ-loop
 add-cuts c = let t = c .before .before .before in
@@ -58,13 +57,13 @@ loop-less : tie.Need-loop-less Inv-loop μ-loop
 loop-less c = let t = c .before .before .before in
     let l = t .loop in
     let f = c .before .before in
-    omega (arith, cut-beyond (over t) (start t .args .step) (start t .pre .0) (l .last) (f .cut-after .result) (f .cut-after .ensures) (c .if1 .left), c .if1 .left)
+    omega (arith, cut-beyond (over t) (start t .args .step) (start t .pre .0) (l .last) (f .cut-after .ensures) (c .if1 .left), c .if1 .left)
 
 loop-again : tie.Need-loop-again Inv-loop μ-loop
 loop-again c = let t = c .before .before .before in
     let l = t .loop in
     let f = c .before .before in
-    λ pos. counting-next (over t) (start t .args .step) pos (l .cuts) (l .last) (l .ahead) (f .cut-after .result) (l .inv pos) (f .cut-after .ensures) (c .if1 .left)
+    λ pos. counting-next (over t) (start t .args .step) pos (l .inv pos) (f .cut-after .ensures) (c .if1 .left)
 
 pub count-cuts-spec : {M : Type 1} → statement M
 count-cuts-spec =

@@ -1,9 +1,6 @@
 -- `fragments::ranges::write_ranges` meets its contract. The loop's invariant is `Ranging`.
-use mathlib.Core.Path.{_≡_, sym, ap, _∙_}
-use mathlib.Core.List.{List}
-use Prim.Native.Nat.{ℕ, _-_, _<_}
+use Prim.Native.Nat.{_-_, _<_}
 use native.Mathlib.Omega.{arith}
-use borrow.Author.Needs.{needs}
 use lib.ListN.{length}
 use Rattle.model.specs.Model.{strings}
 use Rattle.units.specs.Derived.{namedCrossings}
@@ -55,20 +52,20 @@ put-range-requires c κs = let f = c .before in
     let t = f .before in
     let s = start t in
     let l = t .loop in
-    (ranging-room (over t) (s .args .step) (s .pre .0 .0) (s .args .out .now) (l .out) (l .written) (l .last) (l .ahead) (ranged t), (omega (arith, ranged t .within, s .pre .0 .1), omega (arith, cut-within (over t) (s .args .step) (s .pre .0 .0) (l .last) (f .cut-after .result) (f .cut-after .ensures), s .pre .0 .1)))
+    (ranging-room (over t) (s .args .step) (s .pre .0 .0) (ranged t), (omega (arith, ranged t .within, s .pre .0 .1), omega (arith, cut-within (over t) (s .args .step) (s .pre .0 .0) (l .last) (f .cut-after .ensures), s .pre .0 .1)))
 
 add-written : tie.Need-add-written Inv-loop μ-loop
 add-written c = let t = begun (c .before .before) in
     let s = start t in
     let l = t .loop in
-    omega (arith, ranging-room (over t) (s .args .step) (s .pre .0 .0) (s .args .out .now) (l .out) (l .written) (l .last) (l .ahead) (ranged t), ranged t .writing .long, s .good .1 .1 .1 .1 .1 .1 .1 .1 .1 .1 .1 .1 .1 .1 .0 .1)
+    omega (arith, ranging-room (over t) (s .args .step) (s .pre .0 .0) (ranged t), ranged t .writing .long, s .good .1 .1 .1 .1 .1 .1 .1 .1 .1 .1 .1 .1 .1 .1 .0 .1)
 
 same-length : tie.Need-same-length Inv-loop μ-loop
 same-length c = let p = c .before .before .before .before in
     let t = begun p in
     let s = start t in
     let l = t .loop in
-    ranging-long (over t) (s .args .step) (s .pre .0 .0) (s .args .out .now) (l .out) (l .written) (l .last) (l .ahead) (p .before .before .cut-after .result) (ranged t) (p .before .before .cut-after .ensures) _ (p .put-range .ensures)
+    ranging-long (over t) (s .args .step) (s .pre .0 .0) (ranged t) (p .before .before .cut-after .ensures) (p .put-range .ensures)
 
 returns : tie.Need-returns Inv-loop μ-loop
 returns c = let p = c .before .before .before .before in
@@ -76,14 +73,14 @@ returns c = let p = c .before .before .before .before in
     let s = start t in
     let l = t .loop in
     let f = p .before .before in
-    (ranging-count (over t) (s .args .step) (s .pre .0 .0) (s .args .out .now) (l .out) (l .written) (l .last) (l .ahead) (f .cut-after .result) (ranged t) (f .cut-after .ensures) _ (p .put-range .ensures) (c .if1 .taken), ranging-done (over t) (s .args .step) (s .pre .0 .0) (s .args .out .now) (l .out) (l .written) (l .last) (l .ahead) (f .cut-after .result) (ranged t) (f .cut-after .ensures) _ (p .put-range .ensures) (c .if1 .taken))
+    (ranging-count (over t) (s .args .step) (s .pre .0 .0) (ranged t) (f .cut-after .ensures) (p .put-range .ensures) (c .if1 .taken), ranging-done (over t) (s .args .step) (s .pre .0 .0) (ranged t) (f .cut-after .ensures) (p .put-range .ensures) (c .if1 .taken))
 
 loop-less : tie.Need-loop-less Inv-loop μ-loop
 loop-less c = let p = c .before .before .before .before in
     let t = begun p in
     let s = start t in
     let f = p .before .before in
-    omega (arith, cut-beyond (over t) (s .args .step) (s .pre .0 .0) (t .loop .last) (f .cut-after .result) (f .cut-after .ensures) (c .if1 .left), c .if1 .left)
+    omega (arith, cut-beyond (over t) (s .args .step) (s .pre .0 .0) (t .loop .last) (f .cut-after .ensures) (c .if1 .left), c .if1 .left)
 
 loop-again : tie.Need-loop-again Inv-loop μ-loop
 loop-again c = let p = c .before .before .before .before in
@@ -91,7 +88,7 @@ loop-again c = let p = c .before .before .before .before in
     let s = start t in
     let l = t .loop in
     let f = p .before .before in
-    λ pos. ranging-next (over t) (s .args .step) pos (s .args .out .now) (l .out) (l .written) (l .last) (l .ahead) (f .cut-after .result) (l .inv pos) (f .cut-after .ensures) _ (p .put-range .ensures) (c .if1 .left)
+    λ pos. ranging-next (over t) (s .args .step) pos (l .inv pos) (f .cut-after .ensures) (p .put-range .ensures) (c .if1 .left)
 
 pub write-ranges-spec : {M : Type 1} → statement M
 write-ranges-spec =

@@ -1,9 +1,7 @@
 -- `fragments::raw::fragments_raw` meets its contract.
 use native.Mathlib.Omega.{arith}
-use mathlib.Core.Path.{_≡_, ap, _∙_}
+use mathlib.Core.Path.{ap, _∙_}
 use borrow.Author.Needs.{needs}
-use lib.ListN.{getD}
-use Rattle.prepare.specs.Layout.{kindAt, crossingCountAt}
 use Rattle.prepare.specs.Numbers.{kindFrom}
 use Rattle.fragments.proofs.FinishLaws.{ranges-read, given-read}
 use Rattle.fragments.proofs.raw.fragments_raw.Statement.{statement}
