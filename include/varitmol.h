@@ -257,6 +257,68 @@ varitmol_answer varitmol_encode_prepared(
     uint8_t *scratch_a, size_t scratch_a_len,
     uint8_t *scratch_b, size_t scratch_b_len);
 
+/* Ranges of a text that may be encoded apart, the first as a text and the others as continuations: two numbers a range, its start and its
+ * end in bytes. No range but the last is shorter than target bytes. 10 if the model has no raw path, 12 if out is too short for all
+ * numbers. After 0 out holds the numbers and then zeros, and written counts them. */
+varitmol_answer varitmol_fragments(
+
+    const uint8_t *piece_bytes, size_t piece_bytes_len,
+    const uint32_t *piece_offsets, size_t piece_offsets_len,
+    const uint32_t *lookup, size_t lookup_len,
+    const uint32_t *fallback, size_t fallback_len,
+    const uint32_t *left, size_t left_len,
+    const uint32_t *right, size_t right_len,
+    const uint32_t *result, size_t result_len,
+    const uint32_t *rank, size_t rank_len,
+    const uint8_t *first_bytes, size_t first_bytes_len,
+    const uint32_t *first_offsets, size_t first_offsets_len,
+    const uint32_t *first_ids, size_t first_ids_len,
+    const bool *first_lstrip, size_t first_lstrip_len,
+    const bool *first_rstrip, size_t first_rstrip_len,
+    const uint8_t *second_bytes, size_t second_bytes_len,
+    const uint32_t *second_offsets, size_t second_offsets_len,
+    const uint32_t *second_ids, size_t second_ids_len,
+    const bool *second_lstrip, size_t second_lstrip_len,
+    const bool *second_rstrip, size_t second_rstrip_len,
+    const uint8_t *step_bytes, size_t step_bytes_len,
+    const uint8_t *step_kinds, size_t step_kinds_len,
+    const uint32_t *step_spans, size_t step_spans_len,
+    uint8_t metaspace, uint8_t split,
+    const uint8_t *text, size_t text_len,
+    size_t target,
+    uint32_t *out, size_t out_len);
+
+/* The same without the check and without what varitmol_prepare derives. The caller's duty is that of varitmol_encode_prepared. */
+varitmol_answer varitmol_fragments_prepared(
+
+    const uint8_t *piece_bytes, size_t piece_bytes_len,
+    const uint32_t *piece_offsets, size_t piece_offsets_len,
+    const uint32_t *lookup, size_t lookup_len,
+    const uint32_t *fallback, size_t fallback_len,
+    const uint32_t *left, size_t left_len,
+    const uint32_t *right, size_t right_len,
+    const uint32_t *result, size_t result_len,
+    const uint32_t *rank, size_t rank_len,
+    const uint8_t *first_bytes, size_t first_bytes_len,
+    const uint32_t *first_offsets, size_t first_offsets_len,
+    const uint32_t *first_ids, size_t first_ids_len,
+    const bool *first_lstrip, size_t first_lstrip_len,
+    const bool *first_rstrip, size_t first_rstrip_len,
+    const uint8_t *second_bytes, size_t second_bytes_len,
+    const uint32_t *second_offsets, size_t second_offsets_len,
+    const uint32_t *second_ids, size_t second_ids_len,
+    const bool *second_lstrip, size_t second_lstrip_len,
+    const bool *second_rstrip, size_t second_rstrip_len,
+    const uint8_t *step_bytes, size_t step_bytes_len,
+    const uint8_t *step_kinds, size_t step_kinds_len,
+    const uint32_t *step_spans, size_t step_spans_len,
+    uint8_t metaspace, uint8_t split,
+    const uint64_t *adjacency, size_t adjacency_len,
+    const uint32_t *index, size_t index_len,
+    const uint8_t *text, size_t text_len,
+    size_t target,
+    uint32_t *out, size_t out_len);
+
 #ifdef __cplusplus
 }
 #endif

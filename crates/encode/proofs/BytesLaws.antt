@@ -27,7 +27,7 @@ use Rattle.sections.specs.Sections.{Item, token, plain, takenApart, stopBefore,
 use Rattle.sections.specs.SecondList.{NormalPart, normalPartOf, normalPartsAround, normalPartsFor, normalParts}
 use Rattle.encode.specs.Parts.{Stretch, stretch}
 use Rattle.encode.specs.inner.Passes.{Normal, partStretch, partsIn, stretchesIn, sectionStretches}
-use Rattle.encode.proofs.WriterLaws.{Each, none-left, one-more, each}
+use Rattle.encode.proofs.WriterLaws.{Each, none-left, one-more, each, each-append}
 use Rattle.encode.proofs.DerivedLaws.{OfBytes, token-fine, bytes-fine}
 
 -- ---- what holds of each element
@@ -37,10 +37,6 @@ on-cond P true p q = p
 on-cond P false p q = q
 
 module _ {A : Type 0} {P : A → Type 0} where
-  pub each-append : {xs ys : List A} → Each P xs → Each P ys → Each P (xs ++ ys)
-  each-append none-left qs = qs
-  each-append (one-more p ps) qs = one-more p (each-append ps qs)
-
   pub each-take : (n : ℕ) {xs : List A} → Each P xs → Each P (take n xs)
   each-take zero ps = none-left
   each-take (suc n) none-left = none-left

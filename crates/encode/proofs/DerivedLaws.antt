@@ -37,7 +37,7 @@ use Rattle.encode.specs.Encode.{idsOf, startsOf, dropsOf, held}
 use Rattle.encode.specs.inner.Writers.{Writer, stretchWriter}
 use Rattle.encode.specs.inner.Tables.{Tables, words, ownIn, rowsIn, cutsIn, stretchIn}
 use Rattle.encode.specs.inner.Passes.{partStarts, partDrops, partsSymbols, idWriter, partWriter, partsWriter}
-use Rattle.encode.proofs.WriterLaws.{Each, none-left, one-more, Fits, fits-all}
+use Rattle.encode.proofs.WriterLaws.{Each, none-left, one-more, each-append, Fits, fits-all}
 use Rattle.encode.proofs.PassLaws.{keeps-part}
 use Rattle.encode.proofs.ModelLaws.{cutsBy, stretch-counted, stretch-fits}
 
@@ -67,10 +67,6 @@ pub data OfBytes : Item Stretch → Type 0 where
 each-map : {A : Type 0} {P Q : A → Type 0} → ((x : A) → P x → Q x) → {xs : List A} → Each P xs → Each Q xs
 each-map f none-left = none-left
 each-map f (one-more p ps) = one-more (f _ p) (each-map f ps)
-
-each-append : {A : Type 0} {P : A → Type 0} {xs ys : List A} → Each P xs → Each P ys → Each P (xs ++ ys)
-each-append none-left qs = qs
-each-append (one-more p ps) qs = one-more p (each-append ps qs)
 
 sum-alike : {A : Type 0} (f g : A → ℕ) {xs : List A} → Each (λ (x : A). f x ≡ g x) xs → sum (map f xs) ≡ sum (map g xs)
 sum-alike f g none-left = refl

@@ -126,6 +126,16 @@ pub going-ended : {whole : List Writer} {before out : List ℕ} {n : ℕ} → Go
 unfolding thenWrites inTurn
 going-ended {out = out} {n = n} g = sym (g .same ∙ rw (add-zero n, take-append-drop n out))
 
+-- One writer, and then others into the buffer from there on.
+pub turn-two : (w : Writer) (ws : List Writer) (before : List ℕ) {n k : ℕ} {out after : List ℕ} → _≡_ {A = Merged} (record { count = n; ids = out }) (w before)
+    → _≡_ {A = Merged} (record { count = k; ids = after }) (inTurn ws (take (length out - n) (drop n out)))
+    → _≡_ {A = Merged} (record { count = n + k; ids = take n out ++ (after ++ drop (length out - n) (drop n out)) }) (inTurn (w ∷ ws) before)
+unfolding inTurn thenWrites
+turn-two w ws before {n} {k} {out} {after} e f =
+    let none' : drop (length out - n) (drop n out) ≡ [] = drop-of-length-le (drop n out) {i = length out - n} (omega (arith, length-drop n out)) in
+    let told : _≡_ {A = Merged} (record { count = k; ids = after }) (inTurn ws (drop n out)) = f ∙ ap (inTurn ws) (part-to-end out n) in
+    rw (none', append-nil after) (ap (λ (d : Merged). thenWrites (record { count = n; ids = out }) (λ (l : List ℕ). d)) told ∙ ap (λ (d : Merged). thenWrites d (inTurn ws)) e)
+
 -- Writers in turn, and then others.
 module _ {A : Type 0} (write : A → Writer) (keeps : (x : A) → Keeps (write x)) where
   pub turn-append : (xs : List A) (ws : List Writer) (out : List ℕ) → inTurn (map write xs ++ ws) out ≡ thenWrites (inTurn (map write xs) out) (inTurn ws)
@@ -184,6 +194,10 @@ pub data Each {A : Type 0} (P : A → Type 0) : List A → Type 0 where
 pub each : {A : Type 0} {P : A → Type 0} → ((x : A) → P x) → (xs : List A) → Each P xs
 each all [] = none-left
 each all (x ∷ xs) = one-more (all x) (each all xs)
+
+pub each-append : {A : Type 0} {P : A → Type 0} {xs ys : List A} → Each P xs → Each P ys → Each P (xs ++ ys)
+each-append none-left qs = qs
+each-append (one-more p ps) qs = one-more p (each-append ps qs)
 
 module _ {A : Type 0} (write : A → Writer) where
   pub keeps-all : ((x : A) → Keeps (write x)) → (xs : List A) → Keeps (inTurn (map write xs))

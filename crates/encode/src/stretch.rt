@@ -8,22 +8,24 @@ use prepare::numbers::kind_from;
 use units::WordSplit;
 use units::cut::next_unit;
 ghost use mathlib.Core.Path.{_≡_};
+ghost use mathlib.Core.Bool.{false};
 ghost use Prim.Native.Nat.{_≤_};
 ghost use lib.ListN.{length};
 ghost use Rattle.model.specs.Model.{strings};
 ghost use Rattle.units.specs.Units.{cutBy};
 ghost use Rattle.units.specs.Adjacency.{pairNoted};
 ghost use Rattle.units.specs.Derived.{namedCrossings};
+ghost use Rattle.units.specs.Next.{unitsFrom};
 ghost use Rattle.merge.specs.inner.Laid.{ownFound};
 ghost use Rattle.merge.specs.inner.Turns.{rowIn, Merged};
 ghost use Rattle.prepare.specs.Layout.{indexLength};
-ghost use Rattle.encode.specs.inner.Writers.{stretchWriter};
+ghost use Rattle.encode.specs.inner.Writers.{inTurn, unitWriters, stretchWriter};
 ghost use Rattle.encode.specs.Parts.{stretch};
 ghost use Rattle.encode.specs.inner.Tables.{ownIn, stretchIn};
 ghost use Rattle.encode.specs.inner.Passes.{partsSymbols, partsWriter};
 
-// The ids of a stretch into the front of `out`, each unit's behind those of the last. Answers how many there are.
-pub fn encode_units(
+// The ids of the units from `start` on into the front of `out`, each unit's behind those of the last. Answers how many there are.
+fn encode_rest(
     kind: WordSplit,
     noted: &[u32],
     count: usize,
@@ -42,13 +44,13 @@ pub fn encode_units(
     shift: u32,
     section: &[u8],
     raw: bool,
-    virtual_mark: bool,
+    start: usize,
     out: &mut [u32],
 ) -> usize
-    ensures { λ n. ⌜ _≡_ {A = Merged} (record { count = n; ids = now (out .exit) }) (stretchWriter (rowIn (now (left .entry)) (now (right .entry)) (now (result .entry)) (now (rank .entry)) (now (buckets .entry)) shift) (ownFound (now («piece_bytes» .entry)) (now («piece_offsets» .entry)) (now (lookup .entry)) (now («first_bytes» .entry)) «mark_id») (now (fallback .entry)) (cutBy kind (namedCrossings (strings (now («piece_bytes» .entry)) (now («piece_offsets» .entry))) (now (noted .entry)) count) (pairNoted (now (adjacency .entry))) raw (now (section .entry))) «virtual_mark» raw (now (section .entry)) (now (out .entry))) ⌝ }
+    requires { ⌜ start ≤ length (now section) ⌝ }
+    ensures { λ n. ⌜ _≡_ {A = Merged} (record { count = n; ids = now (out .exit) }) (inTurn (unitWriters (rowIn (now (left .entry)) (now (right .entry)) (now (result .entry)) (now (rank .entry)) (now (buckets .entry)) shift) (ownFound (now («piece_bytes» .entry)) (now («piece_offsets» .entry)) (now (lookup .entry)) (now («first_bytes» .entry)) «mark_id») (now (fallback .entry)) false raw (unitsFrom (cutBy kind (namedCrossings (strings (now («piece_bytes» .entry)) (now («piece_offsets» .entry))) (now (noted .entry)) count) (pairNoted (now (adjacency .entry))) raw (now (section .entry))) (now (section .entry)) start)) (now (out .entry))) ⌝ }
 {
-    let mut mark = virtual_mark;
-    let mut from = 0;
+    let mut from = start;
     let mut written = 0;
     loop {
         let next = next_unit(
@@ -77,16 +79,97 @@ pub fn encode_units(
             shift,
             &section[from..next],
             raw,
-            mark,
+            false,
             &mut out[written..],
         );
         written += more;
         if section.len() <= next {
             return written;
         }
-        mark = false;
         from = next;
     }
+}
+
+// The ids of a stretch into the front of `out`: its first unit, which has the virtual mark, and then the others. Answers how many there are.
+pub fn encode_units(
+    kind: WordSplit,
+    noted: &[u32],
+    count: usize,
+    adjacency: &[u64],
+    piece_bytes: &[u8],
+    piece_offsets: &[u32],
+    lookup: &[u32],
+    fallback: &[u32],
+    first_bytes: &[u32],
+    mark_id: u32,
+    left: &[u32],
+    right: &[u32],
+    result: &[u32],
+    rank: &[u32],
+    buckets: &[u32],
+    shift: u32,
+    section: &[u8],
+    raw: bool,
+    virtual_mark: bool,
+    out: &mut [u32],
+) -> usize
+    ensures { λ n. ⌜ _≡_ {A = Merged} (record { count = n; ids = now (out .exit) }) (stretchWriter (rowIn (now (left .entry)) (now (right .entry)) (now (result .entry)) (now (rank .entry)) (now (buckets .entry)) shift) (ownFound (now («piece_bytes» .entry)) (now («piece_offsets» .entry)) (now (lookup .entry)) (now («first_bytes» .entry)) «mark_id») (now (fallback .entry)) (cutBy kind (namedCrossings (strings (now («piece_bytes» .entry)) (now («piece_offsets» .entry))) (now (noted .entry)) count) (pairNoted (now (adjacency .entry))) raw (now (section .entry))) «virtual_mark» raw (now (section .entry)) (now (out .entry))) ⌝ }
+{
+    let next = next_unit(
+        kind,
+        piece_bytes,
+        piece_offsets,
+        noted,
+        count,
+        adjacency,
+        raw,
+        section,
+        0,
+    );
+    let written = encode_unit(
+        piece_bytes,
+        piece_offsets,
+        lookup,
+        fallback,
+        first_bytes,
+        mark_id,
+        left,
+        right,
+        result,
+        rank,
+        buckets,
+        shift,
+        &section[0..next],
+        raw,
+        virtual_mark,
+        out,
+    );
+    if section.len() <= next {
+        return written;
+    }
+    let more = encode_rest(
+        kind,
+        noted,
+        count,
+        adjacency,
+        piece_bytes,
+        piece_offsets,
+        lookup,
+        fallback,
+        first_bytes,
+        mark_id,
+        left,
+        right,
+        result,
+        rank,
+        buckets,
+        shift,
+        section,
+        raw,
+        next,
+        &mut out[written..],
+    );
+    written + more
 }
 
 // The same by the two derived rows.

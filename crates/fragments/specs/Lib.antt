@@ -1,2 +1,3 @@
 pub mod Safe
 pub mod Fragments
+pub mod inner

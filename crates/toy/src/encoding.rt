@@ -48,7 +48,7 @@ const STRIP: Step = Step::Strip {
     right: true,
 };
 
-fn tell_cells(cells: &[u32]) {
+pub(crate) fn tell_cells(cells: &[u32]) {
     let mut i = 0;
     while i < cells.len() {
         io::write_all(1, b" ");

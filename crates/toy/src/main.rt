@@ -1,6 +1,7 @@
 // The toy models of rules 14.1 and 14.2, run. Writes a line for each call: what it was given, and what it answered.
 mod checks;
 mod encoding;
+mod fragmenting;
 mod normalising;
 mod tables;
 
@@ -8,4 +9,5 @@ fn main() {
     checks::run();
     normalising::run();
     encoding::run();
+    fragmenting::run();
 }

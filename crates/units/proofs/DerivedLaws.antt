@@ -50,7 +50,7 @@ module _ (pieces : List (List ℕ)) (fit : Fit (crossingPlaces pieces)) where
       ∙ sym (crossings-by-place pieces)
 
   -- Of the kinds, SpaceRuns alone looks at the crossings.
-  marks-derived : (kind : WordSplit) (raw : Bool) (section : List ℕ) (p : ℕ) → markCuts kind (namedCrossings pieces (noting pieces kind .noted) (noting pieces kind .count)) raw section p ≡ markCuts kind (crossings pieces) raw section p
+  pub marks-derived : (kind : WordSplit) (raw : Bool) (section : List ℕ) (p : ℕ) → markCuts kind (namedCrossings pieces (noting pieces kind .noted) (noting pieces kind .count)) raw section p ≡ markCuts kind (crossings pieces) raw section p
   unfolding markCuts noting notedOf
   marks-derived SpaceRuns raw section p = rw named-noted
   marks-derived EveryMark raw section p = refl

@@ -104,7 +104,7 @@ fn punctuation_cuts(kind: WordSplit, adjacency: &[u64], raw: bool, section: &[u8
 }
 
 // Whether the mark at `p` starts a unit.
-fn mark_cuts(
+pub fn mark_cuts(
     kind: WordSplit,
     piece_bytes: &[u8],
     piece_offsets: &[u32],

@@ -14,7 +14,7 @@ use Rattle.model.specs.declared.PrependScheme.{PrependScheme}
 use Rattle.model.specs.declared.PrependScheme.the-variants.{Never, Always, First}
 use Rattle.model.specs.declared.Metaspace.{Metaspace}
 use Rattle.model.specs.declared.Metaspace.the-variants.{Absent, Present}
-use Rattle.model.specs.Answers.{ScratchOutcome, refused}
+use Rattle.model.specs.Answers.{Outcome, ScratchOutcome, refused}
 use Rattle.prepare.specs.Prepare.{PrepareOutcome}
 
 -- The number at k of the four of the step at i.
@@ -63,7 +63,11 @@ wrongNumbers kinds spans metaspace split =
 unfoldable pub answered : Bool → Answer → Answer
 answered wrong answer = cond wrong (refused 1 0) answer
 
--- The same of a call with a result buffer and scratch; a 1 leaves them as they were.
+-- The same of a call with a result buffer; a 1 leaves it as it was.
+unfoldable pub answeredResult : Bool → List ℕ → Outcome → Outcome
+answeredResult wrong out outcome = cond wrong (record { answer = refused 1 0; out = out }) outcome
+
+-- The same of a call with scratch too.
 unfoldable pub answeredScratch : Bool → List ℕ → List ℕ → List ℕ → ScratchOutcome → ScratchOutcome
 answeredScratch wrong out a b outcome = cond wrong (record { answer = refused 1 0; out = out; scratchA = a; scratchB = b }) outcome
 

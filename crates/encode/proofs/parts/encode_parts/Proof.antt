@@ -3,18 +3,19 @@
 use Prim.Native.Nat.{ℕ, _-_}
 use native.Mathlib.Omega.{arith}
 use mathlib.Core.Path.{_≡_, refl, ap, _∙_}
-use mathlib.Core.List.{List, map}
+use mathlib.Core.List.{List, _∷_, map}
 use borrow.Author.Needs.{needs}
 use lib.ListN.{length, take, drop}
 use lib.Seq.{slice}
 use Rattle.model.specs.Model.{TokenList, tokenList}
-use Rattle.sections.specs.Sections.{Item, takenApart}
+use Rattle.merge.specs.inner.Turns.{Merged}
+use Rattle.sections.specs.Sections.{Item, plain, takenApart}
 use Rattle.sections.specs.SecondList.{NormalPart, normalParts}
 use Rattle.sections.proofs.StepLaws.{stepsLeft}
 use Rattle.sections.proofs.PartLaws.{partsLeft, parts-start}
 use Rattle.encode.specs.Parts.{Stretch}
 use Rattle.encode.specs.inner.Tables.{Tables}
-use Rattle.encode.specs.inner.Passes.{partWriter, partStretch, partOutputs}
+use Rattle.encode.specs.inner.Passes.{partWriter, partsWriter, partStretch, partOutputs}
 use Rattle.encode.proofs.WriterLaws.{Going, going-start}
 use Rattle.encode.proofs.PassLaws.{parts-on, parts-fit, token-on, token-fit, parts-ended}
 use Rattle.encode.proofs.ItemLaws.{Short, short-head, short-rest}
@@ -135,63 +136,83 @@ enum-known-start c = search needs
 part-requires : tie.Need-part-requires Inv-loop μ-loop
 part-requires c κs = search needs
 
+-- The way back from a part: to the item, to the walk, to the loop's head, and to the start.
+abbrev itemAt : tie.After-part Inv-loop μ-loop → tie.After-start Inv-loop μ-loop
+itemAt p = p .before .before
+
+abbrev walkAt : tie.After-part Inv-loop μ-loop → tie.After-next-item Inv-loop μ-loop
+walkAt p = itemAt p .before .before
+
+abbrev headAt : tie.After-part Inv-loop μ-loop → tie.At-loop Inv-loop μ-loop
+headAt p = walkAt p .before
+
+abbrev startAt : tie.After-part Inv-loop μ-loop → tie.Start Inv-loop μ-loop
+startAt p = start (headAt p .before)
+
+-- The part that is written, and what follows it.
+abbrev partAt : tie.After-part Inv-loop μ-loop → NormalPart
+partAt p =
+    let now = itemAt p .start .given .0 in
+    record { bytes = slice (now .0) (now .1 .0) (startAt p .args .text .now); first = now .1 .1 .0 }
+
+nextAt : (p : tie.After-part Inv-loop μ-loop)
+    → partsLeft (tokensOf (startAt p)) (startAt p .args .text .now) (headAt p .loop .cursor) ≡ plain (partAt p) ∷ partsLeft (tokensOf (startAt p)) (startAt p .args .text .now) (itemAt p .start .given .0 .1 .1 .1 .0)
+nextAt p =
+    let s = startAt p in
+    part-next (tokensOf s) (s .args .text .now) (s .args .begins .now) (s .pre .1 .0) (s .pre .1 .1 .0) (headAt p .loop .cursor) (walkAt p .next-item .ensures) (itemAt p .start .given .1)
+
 mul-encode-part : tie.Need-mul-encode-part Inv-loop μ-loop
 mul-encode-part c =
-    let a = c .before .before .before .before .before .before in
+    let a = headAt (c .before) in
     omega (arith, start (a .before) .good .1 .1 .1 .1 .1 .1 .1 .1 .1 .1 .1 .1 .1 .1 .1 .1 .1 .1 .1 .1 .1 .0 .1, a .loop .inv .0 .within, a .loop .inv .0 .long)
 
 sub-encode-part : tie.Need-sub-encode-part Inv-loop μ-loop
-sub-encode-part c = c .before .before .before .before .before .before .loop .inv .0 .within
+sub-encode-part c = headAt (c .before) .loop .inv .0 .within
 
 part-encode-part-start : tie.Need-part-encode-part-start Inv-loop μ-loop
-part-encode-part-start c = c .before .before .before .before .before .before .loop .inv .0 .within
+part-encode-part-start c = headAt (c .before) .loop .inv .0 .within
 
 part-encode-part-end : tie.Need-part-encode-part-end Inv-loop μ-loop
 part-encode-part-end c = omega arith
 
 encode-part-requires : tie.Need-encode-part-requires Inv-loop μ-loop
 encode-part-requires c κs =
-    let a = c .before .before .before .before .before .before .before in
-    let s = start (a .before) in
-    (s .pre .0, omega (arith, s .pre .1 .1 .1 .0, a .loop .inv .2))
+    let p = c .before .before in
+    let s = startAt p in
+    (s .pre .0, omega (arith, s .pre .1 .1 .1 .0, headAt p .loop .inv .2))
 
--- The part that is written.
-abbrev partAt : tie.After-start Inv-loop μ-loop → NormalPart
-partAt n =
-    let s = start (n .before .before .before .before) in
-    record { bytes = slice (n .start .given .0 .0) (n .start .given .0 .1 .0) (s .args .text .now); first = n .start .given .0 .1 .1 .0 }
+-- What the call on a part wrote.
+putAt : (e : tie.After-encode-part Inv-loop μ-loop)
+    → let p = e .before .before .before in
+    _≡_ {A = Merged} (record { count = e .encode-part .result; ids = e .encode-part .last .1 .1 .1 .1 .1 .1 .1 .1 .1 .1 .1 .1 .1 .1 .1 .0 }) (partsWriter (tablesOf (startAt p)) (partStretch (startAt p .args .metaspace) (partAt p)) (take (length (headAt p .loop .out) - headAt p .loop .written) (drop (headAt p .loop .written) (headAt p .loop .out))))
+putAt e =
+    let p = e .before .before .before in
+    let s = startAt p in
+    let now = itemAt p .start .given .0 in
+    part-put (tablesOf s) (s .args .metaspace) (s .args .text .now) (now .0) (now .1 .0) (now .1 .1 .0) (s .args .room) (take (length (headAt p .loop .out) - headAt p .loop .written) (drop (headAt p .loop .written) (headAt p .loop .out))) (p .part .ensures) (short-head (headAt p .loop .inv .1) (partAt p) _ (nextAt p)) (e .encode-part .ensures)
 
 add-written-2 : tie.Need-add-written-2 Inv-loop μ-loop
 add-written-2 c =
     let e = c .before .before .before .before in
     let p = e .before .before .before in
-    let n = p .before .before in
-    let f = n .before .before in
-    let a = f .before in
-    let s = start (a .before) in
-    let now = n .start .given .0 in
-    let next = part-next (tokensOf s) (s .args .text .now) (s .args .begins .now) (s .pre .1 .0) (s .pre .1 .1 .0) (a .loop .cursor) (f .next-item .ensures) (n .start .given .1) in
-    omega (arith, s .good .1 .1 .1 .1 .1 .1 .1 .1 .1 .1 .1 .1 .1 .1 .1 .1 .1 .1 .1 .1 .1 .0 .0, parts-fit (tablesOf s) (wholeOf s) (leftAt a) (a .loop .inv .0) (partStretch (s .args .metaspace) (partAt n)) (part-put (tablesOf s) (s .args .metaspace) (s .args .text .now) (now .0) (now .1 .0) (now .1 .1 .0) (s .args .room) (take (length (a .loop .out) - a .loop .written) (drop (a .loop .written) (a .loop .out))) (p .part .ensures) (short-head (a .loop .inv .1) (partAt n) _ next) (e .encode-part .ensures)))
+    let a = headAt p in
+    let s = startAt p in
+    omega (arith, s .good .1 .1 .1 .1 .1 .1 .1 .1 .1 .1 .1 .1 .1 .1 .1 .1 .1 .1 .1 .1 .1 .0 .0, parts-fit (tablesOf s) (wholeOf s) (leftAt a) (a .loop .inv .0) (partStretch (s .args .metaspace) (partAt p)) (putAt e))
 
 loop-less-2 : tie.Need-loop-less-2 Inv-loop μ-loop
 loop-less-2 c =
-    let n = c .before .before .before .before .before .before .before .before .before in
-    let f = n .before .before in
-    let s = start (f .before .before) in
-    part-fewer (tokensOf s) (s .args .text .now) (s .args .begins .now) (s .pre .1 .0) (s .pre .1 .1 .0) (f .before .loop .cursor) (f .next-item .ensures) (n .start .given .1)
+    let p = c .before .before .before .before .before .before .before in
+    let s = startAt p in
+    part-fewer (tokensOf s) (s .args .text .now) (s .args .begins .now) (s .pre .1 .0) (s .pre .1 .1 .0) (headAt p .loop .cursor) (walkAt p .next-item .ensures) (itemAt p .start .given .1)
 
 loop-again-2 : tie.Need-loop-again-2 Inv-loop μ-loop
 loop-again-2 c =
     let e = c .before .before .before .before in
     let p = e .before .before .before in
-    let n = p .before .before in
-    let f = n .before .before in
-    let a = f .before in
-    let s = start (a .before) in
-    let now = n .start .given .0 in
-    let next = part-next (tokensOf s) (s .args .text .now) (s .args .begins .now) (s .pre .1 .0) (s .pre .1 .1 .0) (a .loop .cursor) (f .next-item .ensures) (n .start .given .1) in (
-      parts-on (tablesOf s) (wholeOf s) (leftAt a) (a .loop .inv .0) (partStretch (s .args .metaspace) (partAt n)) _ (ap (takenApart (partStretch (s .args .metaspace))) next) (part-put (tablesOf s) (s .args .metaspace) (s .args .text .now) (now .0) (now .1 .0) (now .1 .1 .0) (s .args .room) (take (length (a .loop .out) - a .loop .written) (drop (a .loop .written) (a .loop .out))) (p .part .ensures) (short-head (a .loop .inv .1) (partAt n) _ next) (e .encode-part .ensures)),
-      short-rest (a .loop .inv .1) _ _ next,
+    let a = headAt p in
+    let s = startAt p in (
+      parts-on (tablesOf s) (wholeOf s) (leftAt a) (a .loop .inv .0) (partStretch (s .args .metaspace) (partAt p)) _ (ap (takenApart (partStretch (s .args .metaspace))) (nextAt p)) (putAt e),
+      short-rest (a .loop .inv .1) _ _ (nextAt p),
       c .before .before .before .scratch .given ∙ a .loop .inv .2,
     )
 

@@ -1,156 +1,141 @@
--- `encode::stretch::encode_units` meets its contract. The loop's invariant: the units before `from` are written, and those from there on follow.
+-- `encode::stretch::encode_units` meets its contract: the first unit, and then the others behind it.
 use Prim.Native.Nat.{ℕ, _-_, _≤_}
-use mathlib.Core.Bool.{Bool, false}
+use mathlib.Core.Bool.{Bool}
+use mathlib.Core.Path.{_≡_, ap, _∙_}
 use mathlib.Core.Option.{Option}
-use mathlib.Core.List.{List, []}
+use mathlib.Core.List.{List}
 use native.Mathlib.Omega.{arith}
 use borrow.Author.Needs.{needs}
-use lib.ListN.{length, take, drop}
+use lib.ListN.{length, take, drop, length-take}
 use Rattle.model.specs.Model.{Row, strings}
 use Rattle.units.specs.Units.{cutBy}
 use Rattle.units.specs.Adjacency.{pairNoted}
 use Rattle.units.specs.Derived.{namedCrossings}
 use Rattle.units.specs.Next.{unitsFrom}
-use Rattle.merge.specs.Start.{withVirtualMark}
 use Rattle.merge.specs.inner.Laid.{ownFound, markedChars}
-use Rattle.merge.specs.inner.Turns.{rowIn}
-use Rattle.encode.specs.inner.Writers.{unitWriter, unitWriters, stretchWriter}
-use Rattle.encode.proofs.WriterLaws.{Going, going-start, going-fits, going-next, going-ended, keeps-unit}
-use Rattle.encode.proofs.StretchLaws.{NextUnit, next-unit, first-writer}
+use Rattle.merge.specs.inner.Turns.{rowIn, Merged}
+use Rattle.encode.specs.inner.Writers.{Writer, unitWriter}
+use Rattle.encode.proofs.WriterLaws.{Keeps, keeps-unit}
+use Rattle.encode.proofs.StretchLaws.{NextUnit, next-unit, keeps-units, keeps-stretch-by, one-unit, more-units}
 use Rattle.encode.proofs.stretch.encode_units.Statement.{statement}
 use Rattle.encode.proofs.stretch.encode_units.Tie as tie
 
-abbrev Inv-loop : tie.InvT-loop
-Inv-loop kind noted count adjacency piece-bytes piece-offsets lookup fallback first-bytes mark-id left right result rank buckets shift section raw virtual-mark out₀ mark₀ from₀ written₀ out mark from written =
-    let row = rowIn left right result rank buckets shift in
-    let own = ownFound piece-bytes piece-offsets lookup first-bytes mark-id in
-    let cuts = cutBy kind (namedCrossings (strings piece-bytes piece-offsets) noted count) (pairNoted adjacency) raw section in
-    (from ≤ length section)
-    × Going (unitWriters row own fallback virtual-mark raw (unitsFrom cuts section 0)) (unitWriters row own fallback mark raw (unitsFrom cuts section from)) out₀ out written
-
-abbrev μ-loop : tie.MeasureT-loop
-μ-loop kind noted count adjacency piece-bytes piece-offsets lookup fallback first-bytes mark-id left right result rank buckets shift section raw virtual-mark out₀ mark₀ from₀ written₀ out mark from written = length section - from
-
-abbrev start : tie.After-slice-known Inv-loop μ-loop → tie.Start Inv-loop μ-loop
+abbrev start : tie.After-slice-known → tie.Start
 start f = f .before .before .before .before .before .before .before .before .before .before .before .before .before .before
 
 -- The rows, own ids and cuts by what is lent.
-abbrev rowOf : tie.Start Inv-loop μ-loop → ℕ → ℕ → Option Row
+abbrev rowOf : tie.Start → ℕ → ℕ → Option Row
 rowOf s = rowIn (s .args .left .now) (s .args .right .now) (s .args .result .now) (s .args .rank .now) (s .args .buckets .now) (s .args .shift)
 
-abbrev ownOf : tie.Start Inv-loop μ-loop → List ℕ → Option ℕ
+abbrev ownOf : tie.Start → List ℕ → Option ℕ
 ownOf s = ownFound (s .args .piece-bytes .now) (s .args .piece-offsets .now) (s .args .lookup .now) (s .args .first-bytes .now) (s .args .mark-id)
 
-abbrev cutsOf : tie.Start Inv-loop μ-loop → ℕ → Bool
+abbrev cutsOf : tie.Start → ℕ → Bool
 cutsOf s = cutBy (s .args .kind) (namedCrossings (strings (s .args .piece-bytes .now) (s .args .piece-offsets .now)) (s .args .noted .now) (s .args .count)) (pairNoted (s .args .adjacency .now)) (s .args .raw) (s .args .section .now)
 
--- The unit that is written next.
-here : (f : tie.After-next-unit Inv-loop μ-loop) → NextUnit (cutsOf (start (f .before .before))) (start (f .before .before) .args .section .now) (f .before .loop .from) (f .next-unit .result)
-here f =
-    let s = start (f .before .before) in
-    next-unit (cutsOf s) (s .args .section .now) (f .before .loop .from) (f .next-unit .result) (f .before .loop .inv .0) (f .next-unit .ensures)
+abbrev startAt : tie.After-next-unit → tie.Start
+startAt f = start (f .before)
 
--- Its characters.
-abbrev charsOf : tie.After-next-unit Inv-loop μ-loop → List (List ℕ)
-charsOf f = markedChars (f .before .loop .mark) (start (f .before .before) .args .raw) (take (f .next-unit .result - f .before .loop .from) (drop (f .before .loop .from) (start (f .before .before) .args .section .now)))
+-- The first unit, and its writer.
+here : (f : tie.After-next-unit) → NextUnit (cutsOf (startAt f)) (startAt f .args .section .now) 0 (f .next-unit .result)
+here f = let s = startAt f in next-unit (cutsOf s) (s .args .section .now) 0 (f .next-unit .result) (omega arith) (f .next-unit .ensures)
 
-loop-holds : tie.Need-loop-holds Inv-loop μ-loop
-loop-holds c = (omega arith, going-start _ _)
+abbrev firstOf : tie.After-next-unit → Writer
+firstOf f = let s = startAt f in unitWriter (rowOf s) (ownOf s) (s .args .fallback .now) (markedChars (s .args .virtual-mark) (s .args .raw) (take (f .next-unit .result - 0) (drop 0 (s .args .section .now))))
 
-next-unit-requires : tie.Need-next-unit-requires Inv-loop μ-loop
+keeps-first : (f : tie.After-next-unit) → Keeps (firstOf f)
+keeps-first f = let s = startAt f in keeps-unit (rowOf s) (ownOf s) (s .args .fallback .now) _
+
+-- The buffer after the first call; what that wrote lies in it.
+abbrev firstLeft : tie.After-encode-unit → List ℕ
+firstLeft w = w .encode-unit .last .1 .1 .1 .1 .1 .1 .1 .1 .1 .1 .1 .1 .1 .1 .1 .0
+
+inside : (w : tie.After-encode-unit) → (w .encode-unit .result ≤ length (firstLeft w)) × (length (firstLeft w) ≡ length (startAt (w .before .before .before) .args .out .now))
+inside w =
+    let f = w .before .before .before in
+    let out = startAt f .args .out .now in
+    let long : length (firstLeft w) ≡ length out = ap (λ (d : Merged). length (d .ids)) (w .encode-unit .ensures) ∙ keeps-first f .long out in
+    (omega (arith, ap (λ (d : Merged). d .count) (w .encode-unit .ensures), keeps-first f .inside out, long), long)
+
+next-unit-requires : tie.Need-next-unit-requires
 next-unit-requires c κs = search needs
 
-sub-encode-unit : tie.Need-sub-encode-unit Inv-loop μ-loop
-sub-encode-unit c = here c .starts
+sub-encode-unit : tie.Need-sub-encode-unit
+sub-encode-unit c = search needs
 
-part-encode-unit-start : tie.Need-part-encode-unit-start Inv-loop μ-loop
-part-encode-unit-start c = here c .starts
+part-encode-unit-start : tie.Need-part-encode-unit-start
+part-encode-unit-start c = search needs
 
-part-encode-unit-end : tie.Need-part-encode-unit-end Inv-loop μ-loop
+part-encode-unit-end : tie.Need-part-encode-unit-end
 part-encode-unit-end c = here c .ends
 
-mul-encode-unit : tie.Need-mul-encode-unit Inv-loop μ-loop
-mul-encode-unit c =
-    let a = c .before .before in
-    omega (arith, start (a .before) .good .1 .1 .1 .1 .1 .1 .1 .1 .1 .1 .1 .1 .1 .1 .1 .1 .1 .1 .1 .0 .1, a .loop .inv .1 .within, a .loop .inv .1 .long)
-
-sub-encode-unit-2 : tie.Need-sub-encode-unit-2 Inv-loop μ-loop
-sub-encode-unit-2 c = c .before .before .loop .inv .1 .within
-
-part-encode-unit-start-2 : tie.Need-part-encode-unit-start-2 Inv-loop μ-loop
-part-encode-unit-start-2 c = c .before .before .loop .inv .1 .within
-
-part-encode-unit-end-2 : tie.Need-part-encode-unit-end-2 Inv-loop μ-loop
-part-encode-unit-end-2 c = omega arith
-
-encode-unit-requires : tie.Need-encode-unit-requires Inv-loop μ-loop
+encode-unit-requires : tie.Need-encode-unit-requires
 encode-unit-requires c κs = search needs
 
-add-written : tie.Need-add-written Inv-loop μ-loop
-add-written c =
-    let e = c .before .before in
-    let f = e .before .before .before in
-    let s = start (f .before .before) in
-    omega
-    (arith, s .good .1 .1 .1 .1 .1 .1 .1 .1 .1 .1 .1 .1 .1 .1 .1 .1 .1 .1 .1 .0 .0, going-fits (f .before .loop .inv .1) (unitWriter (rowOf s) (ownOf s) (s .args .fallback .now) (charsOf f)) (keeps-unit (rowOf s) (ownOf s) (s .args .fallback .now) (charsOf f)) (e .encode-unit .ensures))
+same-length : tie.Need-same-length
+same-length c = inside (c .before .before .before) .1
 
-loop-less : tie.Need-loop-less Inv-loop μ-loop
-loop-less c =
-    let h = here (c .before .before .before .before .before .before) in
-    omega (arith, h .above (c .if1 .left), h .ends)
-
-loop-again : tie.Need-loop-again Inv-loop μ-loop
-loop-again c =
-    let e = c .before .before .before in
-    let f = e .before .before .before in
-    let s = start (f .before .before) in
-    let h = here f in (
-      h .ends,
-      going-next (f .before .loop .inv .1) (unitWriter (rowOf s) (ownOf s) (s .args .fallback .now) (charsOf f)) _
-          (first-writer (rowOf s) (ownOf s) (s .args .fallback .now) (f .before .loop .mark) (s .args .raw) (s .args .section .now) (f .before .loop .from) (f .next-unit .result) _ _ (h .more (c .if1 .left)))
-          (keeps-unit (rowOf s) (ownOf s) (s .args .fallback .now) (charsOf f)) (e .encode-unit .ensures),
-    )
-
-returns : tie.Need-returns Inv-loop μ-loop
-unfolding stretchWriter unitWriters withVirtualMark
+returns : tie.Need-returns
 returns c =
-    let e = c .before .before .before in
-    let f = e .before .before .before in
-    let s = start (f .before .before) in
-    let h = here f in
-    going-ended
-    (going-next (f .before .loop .inv .1) (unitWriter (rowOf s) (ownOf s) (s .args .fallback .now) (charsOf f)) []
-    (first-writer (rowOf s) (ownOf s) (s .args .fallback .now) (f .before .loop .mark) (s .args .raw) (s .args .section .now) (f .before .loop .from) (f .next-unit .result) _ [] (h .last (c .if1 .taken)))
-    (keeps-unit (rowOf s) (ownOf s) (s .args .fallback .now) (charsOf f)) (e .encode-unit .ensures))
+    let w = c .before .before .before in
+    let f = w .before .before .before in
+    let s = startAt f in
+    one-unit (rowOf s) (ownOf s) (s .args .fallback .now) (s .args .raw) (s .args .virtual-mark) (cutsOf s) (s .args .section .now) (f .next-unit .result) (here f) (s .args .out .now) (w .encode-unit .ensures) (c .if1 .taken)
 
-same-length : tie.Need-same-length Inv-loop μ-loop
-same-length c =
-    let e = c .before .before .before in
-    let f = e .before .before .before in
-    let s = start (f .before .before) in
-    let h = here f in
-    going-next (f .before .loop .inv .1) (unitWriter (rowOf s) (ownOf s) (s .args .fallback .now) (charsOf f)) (unitWriters (rowOf s) (ownOf s) (s .args .fallback .now) false (s .args .raw) [])
-    (first-writer (rowOf s) (ownOf s) (s .args .fallback .now) (f .before .loop .mark) (s .args .raw) (s .args .section .now) (f .before .loop .from) (f .next-unit .result) _ [] (h .last (c .if1 .taken)))
-    (keeps-unit (rowOf s) (ownOf s) (s .args .fallback .now) (charsOf f)) (e .encode-unit .ensures) .long
+mul-encode-rest : tie.Need-mul-encode-rest
+mul-encode-rest c = let w = c .before .before .before in omega (arith, startAt (w .before .before .before) .good .1 .1 .1 .1 .1 .1 .1 .1 .1 .1 .1 .1 .1 .1 .1 .1 .1 .1 .1 .0 .1, inside w .0, inside w .1)
+
+sub-encode-rest : tie.Need-sub-encode-rest
+sub-encode-rest c = inside (c .before .before .before) .0
+
+part-encode-rest-start : tie.Need-part-encode-rest-start
+part-encode-rest-start c = inside (c .before .before .before) .0
+
+part-encode-rest-end : tie.Need-part-encode-rest-end
+part-encode-rest-end c = omega arith
+
+encode-rest-requires : tie.Need-encode-rest-requires
+encode-rest-requires c κs = here (c .before .before .before .before .before .before .before) .ends
+
+add-result : tie.Need-add-result
+add-result c =
+    let r = c .before .before in
+    let w = r .before .before .before .before .before in
+    let f = w .before .before .before in
+    let s = startAt f in
+    let tail = take (length (firstLeft w) - w .encode-unit .result) (drop (w .encode-unit .result) (firstLeft w)) in
+    omega (arith, s .good .1 .1 .1 .1 .1 .1 .1 .1 .1 .1 .1 .1 .1 .1 .1 .1 .1 .1 .1 .0 .0, inside w .0, inside w .1, ap (λ (d : Merged). d .count) (r .encode-rest .ensures), keeps-units (rowOf s) (ownOf s) (s .args .fallback .now) (s .args .raw) (unitsFrom (cutsOf s) (s .args .section .now) (f .next-unit .result)) .inside tail, length-take (length (firstLeft w) - w .encode-unit .result) (drop (w .encode-unit .result) (firstLeft w)))
+
+returns-2 : tie.Need-returns-2
+returns-2 c =
+    let r = c .before .before in
+    let e = r .before .before in
+    let w = e .before .before .before in
+    let f = w .before .before .before in
+    let s = startAt f in
+    more-units (rowOf s) (ownOf s) (s .args .fallback .now) (s .args .raw) (s .args .virtual-mark) (cutsOf s) (s .args .section .now) (f .next-unit .result) (here f) (s .args .out .now) (w .encode-unit .ensures) (e .if1 .left) (r .encode-rest .ensures)
+
+same-length-2 : tie.Need-same-length-2
+same-length-2 c =
+    let s = startAt (c .before .before .before .before .before .before .before .before .before .before) in
+    ap (λ (d : Merged). length (d .ids)) (returns-2 c) ∙ keeps-stretch-by (rowOf s) (ownOf s) (s .args .fallback .now) (s .args .raw) (s .args .virtual-mark) (cutsOf s) (s .args .section .now) .long (s .args .out .now)
 
 pub encode-units-spec : {M : Type 1} → statement M
 encode-units-spec =
     tie.close
     (tie.spec
-    Inv-loop
-    μ-loop
-    loop-holds
     next-unit-requires
     sub-encode-unit
     part-encode-unit-start
     part-encode-unit-end
-    mul-encode-unit
-    sub-encode-unit-2
-    part-encode-unit-start-2
-    part-encode-unit-end-2
     encode-unit-requires
-    add-written
     same-length
     returns
-    loop-less
-    loop-again)
+    mul-encode-rest
+    sub-encode-rest
+    part-encode-rest-start
+    part-encode-rest-end
+    encode-rest-requires
+    add-result
+    same-length-2
+    returns-2)
