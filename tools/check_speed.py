@@ -10,10 +10,11 @@ has the best of ten calls, and of ten on the same model with its longest piece t
 piece in the lookup list. Last stands how much longer prepare takes than the check on a model of that size whose marks all stand at the
 front of a piece, so that every piece is walked.
 """
+import argparse
 import ctypes
 import random
-import sys
 
+from complaints import run
 from library import NO_TOKENS, best_time, function, octets, words
 
 # Pieces and rows wanted.
@@ -48,8 +49,11 @@ def columns(pieces, rows):
 
 
 def main():
-    check, prepare = (function(sys.argv[1], name) for name in ("varitmol_check", "varitmol_prepare"))
-    derived = [(ctypes.c_uint64 * 1024)(), ctypes.c_size_t(1024)] + words([0] * 4936)
+    p = argparse.ArgumentParser(description=__doc__, formatter_class=argparse.RawDescriptionHelpFormatter)
+    p.add_argument("library", metavar="LIBRARY")
+    library = p.parse_args().library
+    check, prepare = (function(library, name) for name in ("varitmol_check", "varitmol_prepare"))
+    derived = [(ctypes.c_uint64 * 1024)(), ctypes.c_size_t(1024)] + words([0] * 136008)
     for size in SIZES:
         pieces, rows = model(*size, "", "▁▁" + LETTERS)
         usual, twice = (best_time(check, columns(p, rows), 10) / 1e6 for p in (pieces, pieces + [max(pieces, key=len)]))
@@ -58,4 +62,4 @@ def main():
         print(f"{len(pieces)} pieces, {len(rows)} rows: {usual:.2f} ms; with a long piece twice {twice:.2f} ms; prepare {beyond:.2f} ms more")
 
 
-main()
+run(main)

@@ -7,13 +7,15 @@ LIBRARY is the static library as a shared one; tools/library.py has the commands
 and the best of three calls, each with the model check and what is derived of the model; the model has three pieces. BYTES is another
 length for the texts: a time that grows faster than the text does is what this looks for.
 """
+import argparse
 import ctypes
 import random
-import sys
 
+from complaints import run
 from library import NO_TOKENS, best_time, flags, function, octets, words
 
 PIECES = ["▁".encode(), b"a", b"b"]
+LONGEST = 1048576
 
 
 def tokens(contents, lstrip, rstrip):
@@ -55,8 +57,13 @@ def texts(size):
 
 
 def main():
-    fragments = function(sys.argv[1], "varitmol_fragments")
-    size = int(sys.argv[2]) if len(sys.argv) > 2 else 1048576
+    p = argparse.ArgumentParser(description=__doc__, formatter_class=argparse.RawDescriptionHelpFormatter)
+    p.add_argument("library", metavar="LIBRARY")
+    p.add_argument("bytes", metavar="BYTES", nargs="?", type=int, default=LONGEST)
+    a = p.parse_args()
+    if not 3 <= a.bytes <= LONGEST:
+        p.error(f"BYTES is a number from 3 to {LONGEST}")
+    fragments, size = function(a.library, "varitmol_fragments"), a.bytes
     out = words([0] * (2 * size + 2))
     for name, text, first in texts(size):
         for split, kind in enumerate(("SpaceRuns", "EveryMark")):
@@ -69,4 +76,4 @@ def main():
                 print(f"{name}, {kind}, target {target}: {written} numbers, {spent:.0f} ms", flush=True)
 
 
-main()
+run(main)

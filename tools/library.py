@@ -6,7 +6,12 @@
 A slice is two arguments, a buffer and its length; the parameters' order is that of include/varitmol.h.
 """
 import ctypes
+import pathlib
 import time
+
+from complaints import end
+
+MAKE = "in the repository's root: rt staticlib varitmol, then the gcc command of tools/library.py"
 
 
 class Answer(ctypes.Structure):
@@ -14,7 +19,15 @@ class Answer(ctypes.Structure):
 
 
 def function(path, name):
-    f = getattr(ctypes.CDLL(path), name)
+    """The library's function of that name. Ends the tool where there is none."""
+    if not pathlib.Path(path).is_file():
+        end(f"there is no library {path} ({MAKE})")
+    try:
+        f = getattr(ctypes.CDLL(str(pathlib.Path(path).resolve())), name)
+    except OSError:
+        end(f"{path} is no shared library ({MAKE})")
+    except AttributeError:
+        end(f"{path} has no {name}: it is older than this tool ({MAKE})")
     f.restype = Answer
     return f
 

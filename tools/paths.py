@@ -6,16 +6,23 @@
 
 A path in a proof is a chain of these: `c .before .before .part .ensures` goes two records back from the one that the need is given.
 """
+import argparse
 import pathlib
 import re
-import sys
+
+from complaints import end, run
 
 
 def main():
-    if len(sys.argv) != 4:
-        raise SystemExit(__doc__)
-    folder, crate, function = sys.argv[1:]
-    text = pathlib.Path(folder, f"Rattle.{crate}.proofs", "proofs", function, "Lts.antt").read_text()
+    p = argparse.ArgumentParser(description=__doc__, formatter_class=argparse.RawDescriptionHelpFormatter)
+    p.add_argument("folder", metavar="DIR")
+    p.add_argument("crate")
+    p.add_argument("function", help="as it stands under the crate's proofs, with its modules")
+    a = p.parse_args()
+    generated = pathlib.Path(a.folder, f"Rattle.{a.crate}.proofs", "proofs", a.function, "Lts.antt")
+    if not generated.is_file():
+        end(f"there is no {generated}: rt dev {a.crate} --generated {a.folder} writes it")
+    text = generated.read_text()
     for name, body in re.findall(r"^\s*pub record (\S+) : Type \d where\n(.*?)\n\n", text, re.M | re.S):
         if "·" in name:
             continue
@@ -27,4 +34,4 @@ def main():
         print(f"{need}: {record}")
 
 
-main()
+run(main)

@@ -5,17 +5,26 @@
 
 tools/spec_cases.py has the form of a case, and computes them with the definitions.
 """
+import argparse
 import itertools
 import json
 
+from complaints import run
+
 MARK = "▁"
 TURNING = ("replace", " ", MARK)
-ADJACENCY, INDEX = 1024, 4936
+ADJACENCY, INDEX = 1024, 136008
+SLOTS, SHARED = 131072, 2 ** 31
 
 T_PIECES = [b"\xe2\x96\x81", b"a", b"b", b"ab", b"\xe2\x96\x81a", b".", b"\xc3", b"\xa9"]
 T = {"pieces": T_PIECES, "rows": [(0, 1, 4, 1), (1, 2, 3, 0)], "fallback": {0xC3: 6, 0xA9: 7},
      "first": [], "second": [], "steps": [], "metaspace": ("always", False)}
 U = dict(T, pieces=T_PIECES + ["b▁a".encode()], rows=T["rows"] + [(2, 4, 8, 2)])
+
+# Pairs of ids that lie far apart: the three of its rows share a slot of the pair table. Most ids have no piece.
+S_PIECES = {0: b"a", 2: b"b", 104: b"c", 128: b"d", 206: b"e", 256: b"f", 257: b"ba", 258: b"cd", 259: b"ef"}
+S = dict(T, pieces=[S_PIECES.get(id, b"") for id in range(260)], rows=[(2, 0, 257, 1), (104, 128, 258, 0), (206, 256, 259, 0)],
+         fallback={})
 
 
 # ---- the columns
@@ -95,6 +104,21 @@ def begun(contents):
     return [int(b in first) for b in range(256)]
 
 
+def slot(left, right):
+    return (left * 1327217885 + right * 1123411259) // 32768 % SLOTS
+
+
+def pair_table(m):
+    """For each slot one more than the place of its row; where several have it, of that with the lowest rank, and SHARED more."""
+    words = [0] * SLOTS
+    places = {}
+    for place, (left, right, _, _) in enumerate(m["rows"]):
+        places.setdefault(slot(left, right), []).append(place)
+    for at, rows in places.items():
+        words[at] = min(rows, key=lambda place: m["rows"][place][3]) + 1 + (SHARED if len(rows) > 1 else 0)
+    return words
+
+
 def index(m):
     pieces, lookup = m["pieces"], columns(m)["lookup"]
     kind = kind_number(m)
@@ -104,7 +128,7 @@ def index(m):
     shift = next(s for s in range(8) if s == 7 or len(pieces) <= 4096 << s)
     return [kind, raw_path_number(m), len(noted), *words, *[0] * (64 - len(words)), mark[0] if mark else 2 ** 32 - 1, shift,
             *[sum(pieces[id][0] < b for id in lookup) for b in range(257)],
-            *[sum(left < b << shift for left, *_ in m["rows"]) for b in range(4097)],
+            *[sum(left < b << shift for left, *_ in m["rows"]) for b in range(4097)], *pair_table(m),
             *begun(m["first"]), *begun(m["second"]), max((len(c.encode()) for c in m["first"]), default=0)]
 
 
@@ -114,14 +138,15 @@ def runs(words):
     return {"runs": [[word, len(list(same))] for word, same in itertools.groupby(words)]}
 
 
-def call(m, refused=0, rows=ADJACENCY, room=INDEX):
-    """prepare, lent rows of these lengths; a refusal leaves them as they were."""
+def call(m, refused=0, rows=ADJACENCY, room=INDEX, index_alone=False):
+    """prepare, lent rows of these lengths; a refusal leaves them as they were. What is left of adjacency may be left out."""
     number = refused or (12 if rows < ADJACENCY or room < INDEX else 0)
     after = [[9] * room, [5] * rows]
     if number == 0:
         after = [words + [0] * (n - len(words)) for words, n in ((index(m), room), (adjacency(m), rows))]
-    return {"op": "prepare", "room": room, "scratch": [rows, 0], "answer": [number, 0, 0 if number else ADJACENCY + INDEX, 0, 0],
-            "out": runs(after[0]), "scratch_after": [runs(after[1]), []]}
+    told = {"op": "prepare", "room": room, "scratch": [rows, 0], "answer": [number, 0, 0 if number else ADJACENCY + INDEX, 0, 0],
+            "out": runs(after[0])}
+    return told if index_alone else dict(told, scratch_after=[runs(after[1]), []])
 
 
 CASES = [
@@ -133,13 +158,15 @@ CASES = [
     ("a tangled crossing, and no mark among the pieces", dict(T, pieces=[b"a", "a▁b▁".encode()], rows=[], fallback={}), [{}]),
     ("a mark and spaces turned into marks, without metaspace", dict(T, steps=[("prepend", MARK), TURNING], metaspace=None), [{}]),
     ("spaces turned into marks alone", dict(T, steps=[TURNING], metaspace=None), [{}]),
+    ("three rows share a slot; of the two of lowest rank the first is named", S, [{"index_alone": True}]),
     ("a piece that is no UTF-8", dict(T, pieces=[b"a\xc3"], rows=[], fallback={}), [{"refused": 3, "rows": 2, "room": 3}]),
 ]
 
 
 def main():
+    argparse.ArgumentParser(description=__doc__, formatter_class=argparse.RawDescriptionHelpFormatter).parse_args()
     for says, m, calls in CASES:
         print(json.dumps({"says": says, "model": columns(m), "calls": [call(m, **c) for c in calls]}, separators=(",", ":")))
 
 
-main()
+run(main)

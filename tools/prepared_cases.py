@@ -13,13 +13,14 @@ import collections
 import ctypes
 import json
 
+from complaints import end, run
 from library import flags, function, lent, octets, words
 
 SCHEMES = {None: 0, "never": 1, "always": 2, "first": 3}
 KINDS = ["prepend", "replace", "collapse", "strip"]
 NO_ID = 4294967295
 ADJACENCY_LEN = 1024
-INDEX_LEN = 4936
+INDEX_LEN = 136008
 
 
 def tokens(t):
@@ -63,8 +64,11 @@ def main():
     twins = {name: function(a.library, f"varitmol_{name}_prepared") for name in calls}
     ran, differ = collections.Counter(), 0
     for number, line in enumerate(open(a.cases), 1):
-        d = json.loads(line)
-        model = columns(d["model"])
+        try:
+            d = json.loads(line)
+            model = columns(d["model"])
+        except (KeyError, TypeError, ValueError) as fault:
+            end(f"{a.cases}: line {number} is not of the form that cases have: {type(fault).__name__} {fault}")
         rows = lent(ctypes.c_uint64, [7] * ADJACENCY_LEN) + lent(ctypes.c_uint32, [7] * INDEX_LEN)
         fine = check(*model).number == 0
         if fine:
@@ -86,4 +90,4 @@ def main():
     raise SystemExit(differ != 0 or any(not ran[name, form] for name in calls for form in ("call", "prepared")))
 
 
-main()
+run(main)

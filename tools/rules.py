@@ -1,14 +1,19 @@
 #!/usr/bin/env python3
-"""rules.py: checks that what the documents cite exists.
+"""Checks that what the documents cite exists.
+
+    tools/rules.py
 
 A link [`name`](file) in docs/*.md names a definition or law that the file has, or a function `crate::module::name` with its proof
 (or its source, where there is no proof file). Every "rule 5.3" in the repository names a rule of docs/RULES.md. Prints what does
 not exist and exits with 1 if there is anything.
 """
+import argparse
 import pathlib
 import re
 import subprocess
 import sys
+
+from complaints import end, needs, run
 
 ROOT = pathlib.Path(__file__).resolve().parent.parent
 LINK = re.compile(r"\[`([^`]+)`\]\(([^)]+)\)")
@@ -54,6 +59,8 @@ def rules():
 
 
 def main():
+    argparse.ArgumentParser(description=__doc__, formatter_class=argparse.RawDescriptionHelpFormatter).parse_args()
+    needs("git", "it names the files to look through")
     faults, links, cited = [], 0, 0
     for page in sorted((ROOT / "docs").glob("*.md")):
         for name, path in LINK.findall(page.read_text()):
@@ -63,11 +70,13 @@ def main():
     known = rules()
     rows = re.findall(r"^\| (\d+)\.(\d+)[, |]", (ROOT / "docs" / "RULES.md").read_text(), re.M)
     faults += [f"RULES.md: a table has {s}.{r}, which is no rule" for s, r in rows if (int(s), int(r)) not in known]
-    files = subprocess.run(["git", "ls-files"], cwd=ROOT, capture_output=True, text=True, check=True).stdout.split()
-    for name in files:
+    listed = subprocess.run(["git", "ls-files"], cwd=ROOT, capture_output=True, text=True)
+    if listed.returncode != 0:
+        end(f"git does not list the files of {ROOT}: {listed.stderr.strip()}")
+    for name in listed.stdout.split():
         if name.endswith(".jsonl") or not (ROOT / name).is_file():
             continue
-        for section, rule in CITED.findall((ROOT / name).read_text()):
+        for section, rule in CITED.findall((ROOT / name).read_text(errors="replace")):
             cited += 1
             if (int(section), int(rule)) not in known:
                 faults.append(f"{name}: there is no rule {section}.{rule}")
@@ -75,4 +84,4 @@ def main():
     sys.exit(bool(faults))
 
 
-main()
+run(main)

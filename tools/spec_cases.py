@@ -7,11 +7,13 @@ FILE has a line for each model: {"model": {columns}, "calls": [..]}. Bytes are h
 encode, fragments, decode, prepare), its input, room (the result buffer's length) and, where it has scratch, the two lengths; then
 answer = [number, place, written, drops, skips], out and scratch_after. Before a call every result cell is 9 and every
 scratch byte is 5. Of prepare the index is the result and adjacency the first scratch; {"runs": [[word, times], ..]} is a row of words.
+Where a call of prepare has no scratch_after, adjacency is not compared: the definitions take too long on many pieces.
 
-Each case becomes one equation that the prover computes, in a repository of its own outside this one. A case that differs
-is named by its line and its call (both counted from 1), with what the definitions give in the place of what FILE says. Cases
-that could not be computed, as too large ones, count as failed; the first of each reason is named with it. The exit status is 0 only if no case
-failed; the last line is 'N passed, M failed'.
+Each case becomes one equation that the prover computes, in a repository of its own outside this one; a case of prepare one for the answer
+and one for each row, which is compared word by word. A case that differs is named by its line and its call (both counted from 1), with what
+the definitions give in the place of what FILE says; of prepare's rows that is the first word that differs. Cases that could not be computed,
+as too large ones, count as failed; the first of each reason is named with it. The exit status is 0 only if no case failed; the last line is
+'N passed, M failed'.
 """
 import argparse
 import json
@@ -21,6 +23,8 @@ import re
 import shutil
 import subprocess
 import tempfile
+
+from complaints import needs, run
 
 ROOT = pathlib.Path(__file__).resolve().parent.parent
 NONE = 4294967295
@@ -32,14 +36,15 @@ use mathlib.Core.Path.{_≡_, refl}
 use mathlib.Core.Bool.{Bool, true, false}
 use mathlib.Core.List.{List, [], _∷_, _++_}
 use lib.Dec.{eqb}
-use lib.ListN.{length, getD, replicate}
+use lib.ListN.{length, getD, take, drop, replicate}
+use Rattle.utf8.specs.Lists.{same}
 use Rattle.model.specs.Model.{Model, TokenList}
 use Rattle.model.specs.declared.Step.{Step}
 use Rattle.model.specs.declared.Step.the-variants.{Prepend, Replace, CollapseSpaces, Strip}
 use Rattle.model.specs.declared.Metaspace.{Metaspace}
 use Rattle.model.specs.declared.Metaspace.the-variants.{Absent, Present}
 use Rattle.model.specs.declared.PrependScheme.the-variants as scheme
-use Rattle.theorems.specs.Cases.{Call, check, normalise, encode, fragments, decode, prepare, Lent, Case, Left, left, agrees}
+use Rattle.theorems.specs.Cases.{Call, check, normalise, encode, fragments, decode, prepare, Lent, Case, Left, left, sameAnswer, agrees}
 
 """
 
@@ -163,11 +168,19 @@ class One:
         self.before = lent([9] * call.get("room", 0), [[5] * n for n in call.get("scratch", [])])
         self.after = lent(self.out, self.scratch)
 
-    def theorem(self):
+    def equations(self):
+        """By name. All of them hold exactly if the definitions leave what the file says."""
         number, place, written, drops, skips = self.answer
-        return (f"{self.name} : agrees (record {{ model = {self.model}; call = {self.call}; before = {self.before}; "
-                f"answer = record {{ number = {number}; place = {place}; written = {written}; drops = {drops}; skips = {skips} }}; "
-                f"after = {self.after} }}) ≡ true\nunfolding agrees {self.model}\n{self.name} = refl\n\n")
+        answer = f"record {{ number = {number}; place = {place}; written = {written}; drops = {drops}; skips = {skips} }}"
+        if self.op == "prepare":
+            tests = {"answer": f"sameAnswer (l .answer) ({answer})"}
+            tests.update({part: f"same (l .after .{part}) {runs(row)}" for part, row in self.buffers().items()})
+            return {f"{self.name}-{part}": self.question(f"{self.name}-{part}", test) for part, test in tests.items()}
+        return {self.name: f"{self.name} : agrees (record {{ model = {self.model}; call = {self.call}; before = {self.before}; "
+                           f"answer = {answer}; after = {self.after} }}) ≡ true\nunfolding agrees {self.model}\n{self.name} = refl\n\n"}
+
+    def buffers(self):
+        return dict(zip(("out", "scratchA", "scratchB"), [self.out, *self.scratch]))
 
     def question(self, name, test):
         """An equation that holds exactly if the test of what the definitions leave, called `l`, is true."""
@@ -273,15 +286,29 @@ def known_bits(repository, case, models, terms, width):
     return [sum(1 << k for k in range(width) if f"bit-{i}-{k}" not in no) for i in range(len(terms))]
 
 
+def first_difference(repository, case, models, buffer, expected):
+    """The place of the first cell that differs, if there is one: by eighths of the part that has it."""
+    start, stop = 0, len(expected)
+    while stop - start > 1:
+        size = -(-(stop - start) // 8)
+        parts = {f"part-{at}": (at, min(at + size, stop)) for at in range(start, stop, size)}
+        equations = {name: case.question(name, f"same (take {e - a} (drop {a} (l .after .{buffer}))) {runs(expected[a:e])}")
+                     for name, (a, e) in parts.items()}
+        no = judge(repository, [(models, equations)])
+        wrong = [parts[name] for name in parts if name in no]
+        if not wrong:
+            return []
+        start, stop = wrong[0]
+    return [start]
+
+
 def explain(repository, case, models):
     """In words: each part of the answer or buffer that differs."""
     wanted = {f"l .answer .{f}": v for f, v in zip(FIELDS, case.answer)}
-    buffers = {"out": case.out}
-    if case.scratch:
-        buffers.update({"scratchA": case.scratch[0], "scratchB": case.scratch[1]})
-    for b, expected in buffers.items():
+    for b, expected in case.buffers().items():
         wanted[f"length (l .after .{b})"] = len(expected)
-        wanted.update({f"getD (l .after .{b}) {i} 0": v for i, v in enumerate(expected)})
+        places = first_difference(repository, case, models, b, expected) if case.op == "prepare" else range(len(expected))
+        wanted.update({f"getD (l .after .{b}) {i} 0": expected[i] for i in places})
     terms = list(wanted)
     equations = {f"same-{i}": case.question(f"same-{i}", f"eqb ({t}) {wanted[t]}") for i, t in enumerate(terms)}
     no = judge(repository, [(models, equations)])
@@ -296,11 +323,12 @@ def explain(repository, case, models):
 
 
 def main():
-    p = argparse.ArgumentParser(description=__doc__.splitlines()[0])
+    p = argparse.ArgumentParser(description=__doc__, formatter_class=argparse.RawDescriptionHelpFormatter)
     p.add_argument("file")
     p.add_argument("--jobs", type=int, default=2)
     p.add_argument("--explain", type=int, default=5, help="how many differing cases are explained by value")
     a = p.parse_args()
+    needs("rt", "it comes with Rattle's kit")
     models, cases = {}, []
     for line, text in enumerate(open(a.file), 1):
         if not text.strip():
@@ -312,16 +340,18 @@ def main():
             cases += [One(line, number, model, call) for number, call in enumerate(entry["calls"], 1)]
         except (KeyError, TypeError, ValueError) as fault:
             p.exit(2, f"{a.file}: line {line} is not of the form that cases have: {type(fault).__name__} {fault}\n")
-    groups = []
+    equations, groups = {c: c.equations() for c in cases}, []
     for at in range(0, len(cases), CASES_A_CRATE):
         some = cases[at:at + CASES_A_CRATE]
-        groups.append(({c.model: models[c.model] for c in some}, {c.name: c.theorem() for c in some}))
+        groups.append(({c.model: models[c.model] for c in some}, {e: text for c in some for e, text in equations[c].items()}))
     with tempfile.TemporaryDirectory() as folder:
         repository = Repository(pathlib.Path(folder) / "repository", a.jobs)
-        failed = judge(repository, groups)
+        refused = judge(repository, groups)
+        reasons = {c: [refused[e] for e in equations[c] if e in refused] for c in cases}
+        failed = [c for c in cases if reasons[c]]
         shown, said = 0, set()
-        for case in (c for c in cases if c.name in failed):
-            reason = failed[case.name]
+        for case in failed:
+            reason = min(reasons[case])
             if reason:
                 if reason not in said:
                     print(f"line {case.line}, call {case.number} ({case.op}) was not computed: {reason[:600]}")
@@ -336,4 +366,4 @@ def main():
     raise SystemExit(bool(failed) or not cases)
 
 
-main()
+run(main)

@@ -1,5 +1,4 @@
 // Text to ids.
-mod finish;
 mod held;
 mod marks;
 mod normal;

@@ -1,6 +1,5 @@
 // The two passes off the raw path: the steps on each section, and then its parts.
 use crate::Counted;
-use crate::finish::clear_from;
 use crate::held::add_held;
 use crate::parts::count_parts;
 use crate::parts::encode_parts;
@@ -10,6 +9,7 @@ use model::Metaspace;
 use model::RESULT_TOO_SHORT;
 use model::SCRATCH_TOO_SHORT;
 use model::Step;
+use model::clear::clear_words;
 use model::tables::lesser;
 use model::tables::part;
 use normalise::Ran;
@@ -549,7 +549,7 @@ pub(crate) fn encode_normal(
                 b,
                 out,
             );
-            clear_from(out, written);
+            clear_words(out, written);
             Answer::done(written, drops, 0)
         }
     }

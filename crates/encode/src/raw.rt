@@ -1,5 +1,4 @@
 // The two passes on the raw path, where the sections of a text are its stretches.
-use crate::finish::clear_from;
 use crate::held::add_held;
 use crate::section::count_section;
 use crate::section::encode_section;
@@ -7,6 +6,7 @@ use crate::section::put_id;
 use merge::Symbols;
 use model::Answer;
 use model::RESULT_TOO_SHORT;
+use model::clear::clear_words;
 use model::tables::part;
 use sections::Next;
 use sections::walk::next_item;
@@ -257,6 +257,6 @@ pub fn encode_raw(
         text,
         out,
     );
-    clear_from(out, written);
+    clear_words(out, written);
     Answer::done(written, counted.drops, 0)
 }

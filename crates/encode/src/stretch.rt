@@ -40,7 +40,7 @@ fn encode_rest(
     right: &[u32],
     result: &[u32],
     rank: &[u32],
-    buckets: &[u32],
+    row_index: &[u32],
     shift: u32,
     section: &[u8],
     raw: bool,
@@ -48,7 +48,7 @@ fn encode_rest(
     out: &mut [u32],
 ) -> usize
     requires { ⌜ start ≤ length (now section) ⌝ }
-    ensures { λ n. ⌜ _≡_ {A = Merged} (record { count = n; ids = now (out .exit) }) (inTurn (unitWriters (rowIn (now (left .entry)) (now (right .entry)) (now (result .entry)) (now (rank .entry)) (now (buckets .entry)) shift) (ownFound (now («piece_bytes» .entry)) (now («piece_offsets» .entry)) (now (lookup .entry)) (now («first_bytes» .entry)) «mark_id») (now (fallback .entry)) false raw (unitsFrom (cutBy kind (namedCrossings (strings (now («piece_bytes» .entry)) (now («piece_offsets» .entry))) (now (noted .entry)) count) (pairNoted (now (adjacency .entry))) raw (now (section .entry))) (now (section .entry)) start)) (now (out .entry))) ⌝ }
+    ensures { λ n. ⌜ _≡_ {A = Merged} (record { count = n; ids = now (out .exit) }) (inTurn (unitWriters (rowIn (now (left .entry)) (now (right .entry)) (now (result .entry)) (now (rank .entry)) (now («row_index» .entry)) shift) (ownFound (now («piece_bytes» .entry)) (now («piece_offsets» .entry)) (now (lookup .entry)) (now («first_bytes» .entry)) «mark_id») (now (fallback .entry)) false raw (unitsFrom (cutBy kind (namedCrossings (strings (now («piece_bytes» .entry)) (now («piece_offsets» .entry))) (now (noted .entry)) count) (pairNoted (now (adjacency .entry))) raw (now (section .entry))) (now (section .entry)) start)) (now (out .entry))) ⌝ }
 {
     let mut from = start;
     let mut written = 0;
@@ -75,7 +75,7 @@ fn encode_rest(
             right,
             result,
             rank,
-            buckets,
+            row_index,
             shift,
             &section[from..next],
             raw,
@@ -106,14 +106,14 @@ pub fn encode_units(
     right: &[u32],
     result: &[u32],
     rank: &[u32],
-    buckets: &[u32],
+    row_index: &[u32],
     shift: u32,
     section: &[u8],
     raw: bool,
     virtual_mark: bool,
     out: &mut [u32],
 ) -> usize
-    ensures { λ n. ⌜ _≡_ {A = Merged} (record { count = n; ids = now (out .exit) }) (stretchWriter (rowIn (now (left .entry)) (now (right .entry)) (now (result .entry)) (now (rank .entry)) (now (buckets .entry)) shift) (ownFound (now («piece_bytes» .entry)) (now («piece_offsets» .entry)) (now (lookup .entry)) (now («first_bytes» .entry)) «mark_id») (now (fallback .entry)) (cutBy kind (namedCrossings (strings (now («piece_bytes» .entry)) (now («piece_offsets» .entry))) (now (noted .entry)) count) (pairNoted (now (adjacency .entry))) raw (now (section .entry))) «virtual_mark» raw (now (section .entry)) (now (out .entry))) ⌝ }
+    ensures { λ n. ⌜ _≡_ {A = Merged} (record { count = n; ids = now (out .exit) }) (stretchWriter (rowIn (now (left .entry)) (now (right .entry)) (now (result .entry)) (now (rank .entry)) (now («row_index» .entry)) shift) (ownFound (now («piece_bytes» .entry)) (now («piece_offsets» .entry)) (now (lookup .entry)) (now («first_bytes» .entry)) «mark_id») (now (fallback .entry)) (cutBy kind (namedCrossings (strings (now («piece_bytes» .entry)) (now («piece_offsets» .entry))) (now (noted .entry)) count) (pairNoted (now (adjacency .entry))) raw (now (section .entry))) «virtual_mark» raw (now (section .entry)) (now (out .entry))) ⌝ }
 {
     let next = next_unit(
         kind,
@@ -137,7 +137,7 @@ pub fn encode_units(
         right,
         result,
         rank,
-        buckets,
+        row_index,
         shift,
         &section[0..next],
         raw,
@@ -162,7 +162,7 @@ pub fn encode_units(
         right,
         result,
         rank,
-        buckets,
+        row_index,
         shift,
         section,
         raw,
@@ -198,7 +198,7 @@ fn encode_by_rows(
     let shift = number_at(index, prepare::SHIFT_AT);
     let noted = &index[prepare::CROSSINGS_AT..prepare::MARK_ID_AT];
     let first_bytes = &index[prepare::FIRST_BYTES_AT..prepare::BUCKETS_AT];
-    let buckets = &index[prepare::BUCKETS_AT..prepare::FIRST_TOKENS_AT];
+    let row_index = &index[prepare::BUCKETS_AT..prepare::FIRST_TOKENS_AT];
     encode_units(
         kind,
         noted,
@@ -214,7 +214,7 @@ fn encode_by_rows(
         right,
         result,
         rank,
-        buckets,
+        row_index,
         shift,
         section,
         raw,

@@ -18,14 +18,14 @@ pub fn encode_unit(
     right: &[u32],
     result: &[u32],
     rank: &[u32],
-    buckets: &[u32],
+    row_index: &[u32],
     shift: u32,
     unit: &[u8],
     raw: bool,
     virtual_mark: bool,
     out: &mut [u32],
 ) -> usize
-    ensures { λ n. ⌜ _≡_ {A = Merged} (record { count = n; ids = now (out .exit) }) (unitWriter (rowIn (now (left .entry)) (now (right .entry)) (now (result .entry)) (now (rank .entry)) (now (buckets .entry)) shift) (ownFound (now («piece_bytes» .entry)) (now («piece_offsets» .entry)) (now (lookup .entry)) (now («first_bytes» .entry)) «mark_id») (now (fallback .entry)) (markedChars «virtual_mark» raw (now (unit .entry))) (now (out .entry))) ⌝ }
+    ensures { λ n. ⌜ _≡_ {A = Merged} (record { count = n; ids = now (out .exit) }) (unitWriter (rowIn (now (left .entry)) (now (right .entry)) (now (result .entry)) (now (rank .entry)) (now («row_index» .entry)) shift) (ownFound (now («piece_bytes» .entry)) (now («piece_offsets» .entry)) (now (lookup .entry)) (now («first_bytes» .entry)) «mark_id») (now (fallback .entry)) (markedChars «virtual_mark» raw (now (unit .entry))) (now (out .entry))) ⌝ }
 {
     let started = init_symbols(
         piece_bytes,
@@ -44,7 +44,7 @@ pub fn encode_unit(
         right,
         result,
         rank,
-        buckets,
+        row_index,
         shift,
         out,
         started.count,

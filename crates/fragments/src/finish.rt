@@ -3,28 +3,16 @@ use crate::ranges::count_cuts;
 use crate::ranges::write_ranges;
 use model::Answer;
 use model::RESULT_TOO_SHORT;
+use model::clear::clear_words;
 use units::WordSplit;
 ghost use mathlib.Core.Path.{_≡_};
-ghost use mathlib.Core.List.{_++_};
-ghost use Prim.Native.Nat.{_-_, _≤_, _<_};
-ghost use lib.ListN.{length, take};
-ghost use Rattle.model.specs.Answers.{zeros, Outcome};
+ghost use Prim.Native.Nat.{_≤_, _<_};
+ghost use lib.ListN.{length};
+ghost use Rattle.model.specs.Answers.{Outcome};
 ghost use Rattle.model.specs.Model.{strings};
 ghost use Rattle.units.specs.Derived.{namedCrossings};
 ghost use Rattle.fragments.specs.inner.Reach.{tokensOf, Given};
 ghost use Rattle.fragments.specs.inner.Search.{safeIn, numbersIn, rangesOutcome};
-
-// Zeros from `start` to the buffer's end.
-fn clear_from(out: &mut [u32], start: usize)
-    requires { ⌜ start ≤ length (now out) ⌝ }
-    ensures { λ _. ⌜ now (out .exit) ≡ take start (now (out .entry)) ++ zeros (length (now (out .entry)) - start) ⌝ }
-{
-    let mut i = start;
-    while i < out.len() {
-        out[i] = 0;
-        i += 1;
-    }
-}
 
 // The ranges between the cuts, where there is room for them, and zeros behind.
 pub fn cut_ranges(
@@ -85,6 +73,6 @@ pub fn cut_ranges(
         step,
         out,
     );
-    clear_from(out, written);
+    clear_words(out, written);
     Answer::done(written, 0, 0)
 }

@@ -1,33 +1,37 @@
 -- Searches that begin from what is derived of an accepted model find what the whole tables hold.
 use mathlib.Core.Path.{_≡_, refl, sym, ap, _∙_}
-use mathlib.Core.Bool.{Bool, true, false}
+use mathlib.Core.Bool.{Bool, true, false, cond, _&&_}
 use mathlib.Core.List.{List, [], _∷_}
 use mathlib.Core.Option.{Option, none, some}
-use Prim.Native.Nat.{ℕ, _+_, _-_, _*_, _/_, _^_, _≤_, _<_, min}
+use Prim.Native.Nat.{ℕ, _+_, _*_, _/_, _^_, _≤_, _<_, min}
 use native.Mathlib.Nat.{not-suc-le-zero, min-eq-left, le-refl, zero-add, div-mul-le-self, div-lt-iff-lt-mul, mul-le-mul-right}
 use native.Mathlib.Omega.{arith}
-use borrow.Author.Tests.{ltb-true, ltb-false, leb-false, eqb-true, lt-ltb, ne-eqb}
+use borrow.Author.Tests.{ltb-true, ltb-false, leb-false, eqb-true, lt-ltb, le-ltb, eq-eqb, ne-eqb}
 use lib.Dec.{ltb, leb, eqb}
 use lib.Pow.{pow-pos}
-use lib.ListN.{length, getD, List·getD-eq-default}
+use lib.ListN.{length, getD, List·getD-append}
+use lib.Seq.{getD-append-add}
 use Rattle.utf8.specs.Lists.{isEmpty, any, find, same, takeWhile, below}
-use Rattle.utf8.proofs.Tests.{clash, or-left, or-right}
+use Rattle.utf8.proofs.Tests.{clash, and-left, and-right, or-left, or-right}
 use Rattle.utf8.proofs.Places.{any-one, all-holds, getD-countFrom}
 use Rattle.utf8.proofs.Fronts.{front-within, front-passes, front-ended, front-past, getD-row, length-row}
 use Rattle.model.specs.Model.{Model, piece, lookupId, noId, piecesOf, mergeRows, rowOf}
 use Rattle.model.specs.Mark.{mark}
 use Rattle.model.specs.ByteOrder.{byteOrder}
-use Rattle.model.specs.inner.Search.{searched, pieceOrder, foundPiece, idAt, rowOrder, pairOrder, foundRow, rowFound}
+use Rattle.model.specs.inner.Search.{searched, pieceOrder, foundPiece, idAt, rowOrder, pairOrder, foundRow, rowFound, isAt}
 use Rattle.model.specs.Check.{namesNoPiece, lookupAscends, rowsAscend, allBelow}
 use Rattle.model.specs.declared.Order.the-variants.{Less, Greater}
-use Rattle.model.proofs.OrderLaws.{by-below, by-numbers, or-less, or-greater, or-else, never, equal-is, same-is-equal, equal-strings, order-turned, turned}
-use Rattle.model.proofs.SearchLaws.{searched-none, part-searched}
+use Rattle.model.specs.declared.Found.{Found}
+use Rattle.model.specs.declared.Found.the-variants.{At, Nothing}
+use Rattle.model.proofs.OrderLaws.{isEqual, by-below, by-numbers, or-less, or-greater, or-else, never, equal-is, same-is-equal, equal-strings, order-turned, turned}
+use Rattle.model.proofs.SearchLaws.{found-below, found-equal, equal-found, part-searched}
 use Rattle.model.proofs.LookupLaws.{no-piece, entries-rise, pieces-fall, id-found}
-use Rattle.model.proofs.RowLaws.{lefts-rise, rows-fall, row-found}
+use Rattle.model.proofs.RowLaws.{lefts-rise, rows-fall, pair-is-equal, row-found}
 use Rattle.model.proofs.StringLaws.{length-strings}
 use Rattle.model.proofs.Accepted.{Accepted}
-use Rattle.index.specs.Index.{firstByteStart, firstBytes, idOr, markId, bucketShift, bucketStart, buckets}
-use Rattle.index.specs.inner.Find.{idOf, keyStart, keyEnd, idFrom, rowFrom}
+use Rattle.index.specs.Index.{firstByteStart, firstBytes, idOr, markId, bucketShift, bucketStart, bucketWords, buckets, slotCount, pairSlot, slotRows, slotWord, shared, pairWords, rowIndex}
+use Rattle.index.specs.inner.Find.{idOf, keyStart, keyEnd, idFrom, rowBetween, pairWord, namedRow, rowHas, rowBy, rowFrom}
+use Rattle.index.proofs.PairLaws.{Says, nothing, alone, several, slot-says, slot-below, names-alone, names-several}
 
 -- ---- ids as numbers
 
@@ -194,13 +198,22 @@ module _ (pieces : List (List ℕ)) (lookup : List ℕ) where
 -- ---- buckets of left ids
 
 module _ (left : List ℕ) (shift : ℕ) where
-  bucket-at : (b : ℕ) → b < 4097 → getD (buckets left shift) b 0 ≡ bucketStart left shift b
+  length-buckets : length (buckets left shift) ≡ bucketWords
   unfolding buckets
-  bucket-at b h = getD-row (bucketStart left shift) 4097 b 0 h
+  length-buckets = length-row (bucketStart left shift) bucketWords
 
-  bucket-none : (b : ℕ) → 4097 ≤ b → getD (buckets left shift) b 0 ≡ 0
-  unfolding buckets
-  bucket-none b h = List·getD-eq-default (buckets left shift) 0 {n = b} (omega (arith, length-row (bucketStart left shift) 4097))
+  bucket-at : (right rank : List ℕ) (b : ℕ) → b < bucketWords → getD (rowIndex left right rank shift) b 0 ≡ bucketStart left shift b
+  unfolding rowIndex buckets
+  bucket-at right rank b h =
+      List·getD-append (buckets left shift) (pairWords left right rank) 0 b (omega (arith, length-buckets))
+      ∙ getD-row (bucketStart left shift) bucketWords b 0 h
+
+  word-at : (right rank : List ℕ) (slot : ℕ) → slot < slotCount → getD (rowIndex left right rank shift) (bucketWords + slot) 0 ≡ slotWord rank (slotRows left right slot)
+  unfolding rowIndex pairWords
+  word-at right rank slot h =
+      ap (λ (n : ℕ). getD (rowIndex left right rank shift) (n + slot) 0) (sym length-buckets)
+      ∙ getD-append-add (buckets left shift) (pairWords left right rank) slot 0
+      ∙ getD-row (λ (slot : ℕ). slotWord rank (slotRows left right slot)) slotCount slot 0 h
 
   bucket-within : (b : ℕ) → bucketStart left shift b ≤ length left
   unfolding bucketStart
@@ -239,29 +252,115 @@ module _ (left : List ℕ) (shift : ℕ) where
       bucket-high : l < (bucket + 1) * 2 ^ shift
       bucket-high = div-lt-iff-lt-mul (pow-pos shift) .0 (omega arith)
 
-      -- A search in the bucket of a left id ends as one among all rows does.
-      pub row-from : ((i : ℕ) → i < length left → getD left i 0 < 4096 * 2 ^ shift) → rowFrom left right (buckets left shift) shift l r ≡ foundRow left right l r
-      unfolding rowFrom foundRow
-      row-from few = by-below bucket 4096 inside outside
+      -- The ids of a row that is the pair's.
+      has-ids : (i : ℕ) → rowHas left right i l r ≡ true → (getD left i 0 ≡ l) × (getD right i 0 ≡ r)
+      has-ids i e =
+          let a = eqb (getD left i 0) l in
+          let b = eqb (getD right i 0) r in
+          let both : (a && b) ≡ true = and-right (ltb i (length left)) (a && b) e in
+          (eqb-true (getD left i 0) l (and-left a b both), eqb-true (getD right i 0) r (and-right a b both))
+
+      -- no row has the pair
+      abbrev absent : Type 0
+      absent = (i : ℕ) → i < length left → rowHas left right i l r ≡ true → ⊥
+
+      has-equal : (i : ℕ) → i < length left → rowHas left right i l r ≡ isEqual (rowOrder left right l r i)
+      unfolding rowOrder
+      has-equal i h = rw (lt-ltb i (length left) h) (pair-is-equal (getD left i 0) (getD right i 0) l r)
+
+      not-found : absent → foundRow left right l r ≡ Nothing
+      unfolding foundRow
+      not-found gone = go (foundRow left right l r) refl
         where
-          inside : bucket < 4096 → rowFrom left right (buckets left shift) shift l r ≡ foundRow left right l r
-          inside h =
-              rw (bucket-at bucket (omega arith), bucket-at (bucket + 1) (omega arith), min-eq-left (bucket-within (bucket + 1)))
-              (part-searched (rowOrder left right l r) (length left) (rows-fall left right ascends level l r) (bucketStart left shift bucket) (bucketStart left shift (bucket + 1)) (bucket-within (bucket + 1))
-              (λ i g k. left-less i (omega (arith, bucket-before bucket i g, bucket-low)))
-              (λ i g k. left-greater i (omega (arith, bucket-from (bucket + 1) i g k, bucket-high))))
+          go : (f : Found) → foundRow left right l r ≡ f → f ≡ Nothing
+          go (At i) e = let s = found-equal (rowOrder left right l r) (length left) i e in absurd (gone i (s .0) (has-equal i (s .0) ∙ ap isEqual (s .1)))
+          go Nothing e = refl
 
-          all-less : 4096 ≤ bucket → (i : ℕ) → i < length left → rowOrder left right l r i ≡ Less
-          all-less h i k = left-less i (omega (arith, few i k, mul-le-mul-right (2 ^ shift) h, bucket-low))
+      has-found : (i : ℕ) → i < length left → rowHas left right i l r ≡ true → foundRow left right l r ≡ At i
+      unfolding foundRow
+      has-found i h e =
+          equal-found (rowOrder left right l r) (length left) (rows-fall left right ascends level l r) i (equal-is _ (sym (has-equal i h) ∙ e)) h
 
-          outside : 4096 ≤ bucket → rowFrom left right (buckets left shift) shift l r ≡ foundRow left right l r
-          outside h =
-              rw (bucket-none (bucket + 1) (omega arith))
-              (searched-none (rowOrder left right l r) _ (min 0 (length left)) (omega arith)
-              ∙ sym (searched-none (rowOrder left right l r) (length left) (length left) (le-refl (length left)))
-              ∙ part-searched (rowOrder left right l r) (length left) (rows-fall left right ascends level l r) (length left) (length left) (le-refl (length left))
-              (λ i g k. all-less h i k)
-              (λ i g k. absurd (omega arith)))
+      module _ (few : (i : ℕ) → i < length left → getD left i 0 < 4096 * 2 ^ shift) (rank : List ℕ) where
+        abbrev index : List ℕ
+        index = rowIndex left right rank shift
+
+        -- A search in the bucket of a left id ends as one among all rows does.
+        row-between : rowBetween left right index shift l r ≡ foundRow left right l r
+        unfolding rowBetween foundRow
+        row-between = by-below (bucket + 1) bucketWords inside outside
+          where
+            inside : bucket + 1 < bucketWords → rowBetween left right index shift l r ≡ foundRow left right l r
+            inside h =
+                rw (lt-ltb (bucket + 1) bucketWords h, bucket-at right rank bucket (omega arith), bucket-at right rank (bucket + 1) h, min-eq-left (bucket-within (bucket + 1)))
+                (part-searched (rowOrder left right l r) (length left) (rows-fall left right ascends level l r) (bucketStart left shift bucket) (bucketStart left shift (bucket + 1)) (bucket-within (bucket + 1))
+                (λ i g k. left-less i (omega (arith, bucket-before bucket i g, bucket-low)))
+                (λ i g k. left-greater i (omega (arith, bucket-from (bucket + 1) i g k, bucket-high))))
+
+            outside : bucketWords ≤ bucket + 1 → rowBetween left right index shift l r ≡ foundRow left right l r
+            outside h =
+                rw (le-ltb (bucket + 1) bucketWords h)
+                (sym
+                (not-found
+                (λ i k e.
+                omega (arith, has-ids i e .0, few i k, mul-le-mul-right (2 ^ shift) (past h), bucket-low))))
+              where
+                past : bucketWords ≤ bucket + 1 → 4096 ≤ bucket
+                past g = omega arith
+
+        slot-of : (i : ℕ) → rowHas left right i l r ≡ true → pairSlot (getD left i 0) (getD right i 0) ≡ pairSlot l r
+        slot-of i e = rw (has-ids i e .0, has-ids i e .1)
+
+        -- A row that is named has the pair, or another way ends as it should.
+        named : (w i : ℕ) → i < length left → namedRow w ≡ i → 0 < w → (rowHas left right i l r ≡ false → cond (ltb w shared) Nothing (rowBetween left right index shift l r) ≡ foundRow left right l r) → rowBy w left right index shift l r ≡ foundRow left right l r
+        named w i h e p rest = rw (ne-eqb w 0 (λ q. omega arith), e) (go (rowHas left right i l r) refl)
+          where
+            go : (b : Bool) → rowHas left right i l r ≡ b → cond b (At i) (cond (ltb w shared) Nothing (rowBetween left right index shift l r)) ≡ foundRow left right l r
+            go true f = sym (has-found i h f)
+            go false f = rest f
+
+        by-word : (w : ℕ) → length left < shared → Says left right (pairSlot l r) w → rowBy w left right index shift l r ≡ foundRow left right l r
+        by-word w small (nothing e gone) = rw (eq-eqb w 0 e) (sym (not-found (λ i h k. gone i h (slot-of i k))))
+        by-word w small (alone i h e sole) =
+            named w i h (rw e (names-alone i (omega arith))) (omega arith)
+            (λ f.
+            rw (lt-ltb w shared (omega arith))
+            (sym (not-found (λ j g k. clash f (ap (λ (m : ℕ). rowHas left right m l r) (sym (sole j g (slot-of j k))) ∙ k)))))
+        by-word w small (several i h e) =
+            named w i h (rw e (names-several i (omega arith))) (omega arith) (λ f. rw (le-ltb w shared (omega arith)) row-between)
+
+        -- By its word, and by the search where rows share the slot, a pair has the row that a search among all rows finds.
+        pub row-from : length left < shared → rowFrom left right index shift l r ≡ foundRow left right l r
+        unfolding rowFrom pairWord
+        row-from small =
+            ap (λ (w : ℕ). rowBy w left right index shift l r) (word-at right rank (pairSlot l r) (slot-below l r))
+            ∙ by-word _ small (slot-says left right (pairSlot l r) rank)
+
+-- ---- on any tables
+
+no-place {ℓ} : {A : Type ℓ} {i : ℕ} → Nothing ≡ At i → A
+no-place e = clash refl (ap isAt e)
+
+-- A place that is found is one of the rows.
+pub found-inside : (left right index : List ℕ) (shift l r : ℕ) {i : ℕ} → rowFrom left right index shift l r ≡ At i → i < length left
+unfolding rowFrom rowBetween
+found-inside left right index shift l r {i} e = go (eqb w 0) (rowHas left right (namedRow w) l r) (ltb w shared) (ltb (l / 2 ^ shift + 1) bucketWords) refl e
+  where
+    w : ℕ
+    w = pairWord index l r
+
+    lo : ℕ
+    lo = getD index (l / 2 ^ shift) 0
+
+    hi : ℕ
+    hi = min (getD index (l / 2 ^ shift + 1) 0) (length left)
+
+    go : (a b c d : Bool) → rowHas left right (namedRow w) l r ≡ b → cond a Nothing (cond b (At (namedRow w)) (cond c Nothing (cond d (searched (rowOrder left right l r) lo hi) Nothing))) ≡ At i → i < length left
+    go true b c d f q = no-place q
+    go false true c d f q = let is : namedRow w ≡ i = cc in omega (arith, ltb-true (namedRow w) (length left) (and-left _ _ f))
+    go false false true d f q = no-place q
+    go false false false true f q = omega (arith, found-below (rowOrder left right l r) lo hi i q)
+    go false false false false f q = no-place q
 
 -- ---- an accepted model
 
@@ -292,14 +391,15 @@ module _ (m : Model) (ok : Accepted m) where
   pub id-by-index : (key : List ℕ) → getD key 0 0 < 256 → idFrom (piecesOf m) (m .lookup) (firstBytes (piecesOf m) (m .lookup)) (markId (piecesOf m) (m .lookup)) key ≡ lookupId (piecesOf m) (m .lookup) key
   id-by-index key byte = id-from (piecesOf m) (m .lookup) (ok .lookupRises) (ok .lookupNames) key byte (omega (arith, pieces-few))
 
-  -- The place that is found by buckets is that which a search among all rows gives, for all pairs.
-  pub place-by-index : (l r : ℕ) → rowFrom (m .left) (m .right) (buckets (m .left) (bucketShift (length (piecesOf m)))) (bucketShift (length (piecesOf m))) l r ≡ foundRow (m .left) (m .right) l r
+  -- The place that is found by the index is that which a search among all rows gives, for all pairs.
+  pub place-by-index : (l r : ℕ) → rowFrom (m .left) (m .right) (rowIndex (m .left) (m .right) (m .rank) (bucketShift (length (piecesOf m)))) (bucketShift (length (piecesOf m))) l r ≡ foundRow (m .left) (m .right) l r
   unfolding allBelow
   place-by-index l r =
       row-from (m .left) (bucketShift (length (piecesOf m))) (m .right) (ok .rowsRise) (sym (ok .sizes .rows .rights)) l r
       (λ i h. omega (arith, ltb-true (getD (m .left) i 0) (length (piecesOf m)) (all-holds _ (m .left) i 0 (ok .leftsBelow) h), shift-room (length (piecesOf m)) pieces-few))
+      (m .rank) (omega (arith, ok .sizes .rowLimit))
 
   -- And so it gives the pair's row.
-  pub row-by-index : (l r : ℕ) → rowFound (mergeRows m) (rowFrom (m .left) (m .right) (buckets (m .left) (bucketShift (length (piecesOf m)))) (bucketShift (length (piecesOf m))) l r) ≡ rowOf (mergeRows m) l r
+  pub row-by-index : (l r : ℕ) → rowFound (mergeRows m) (rowFrom (m .left) (m .right) (rowIndex (m .left) (m .right) (m .rank) (bucketShift (length (piecesOf m)))) (bucketShift (length (piecesOf m))) l r) ≡ rowOf (mergeRows m) l r
   unfolding mergeRows
   row-by-index l r = ap (rowFound (mergeRows m)) (place-by-index l r) ∙ row-found (m .left) (m .right) (m .result) (m .rank) (ok .rowsRise) (sym (ok .sizes .rows .rights)) l r

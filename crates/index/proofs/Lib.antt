@@ -1,2 +1,3 @@
 -- Laws on what is derived of the sorted tables.
 pub mod IndexLaws
+pub mod PairLaws

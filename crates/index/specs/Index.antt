@@ -1,11 +1,12 @@
 -- What is derived of the two sorted tables once, so that a search in them begins near its end: where each first byte begins in the
--- lookup list, the mark's id, and where each bucket of left ids begins in the merge rows.
-use Prim.Native.Nat.{ℕ, _*_, _^_}
-use mathlib.Core.List.{List, map}
+-- lookup list, the mark's id, where each bucket of left ids begins in the merge rows, and a table that names a row for most pairs.
+use Prim.Native.Nat.{ℕ, _+_, _*_, _/_, _%_, _^_}
+use mathlib.Core.Bool.{cond}
+use mathlib.Core.List.{List, [], _∷_, _++_, map}
 use mathlib.Core.Option.{Option, none, some}
-use lib.Dec.{ltb}
+use lib.Dec.{ltb, eqb}
 use lib.ListN.{length, getD}
-use Rattle.utf8.specs.Lists.{takeWhile, below}
+use Rattle.utf8.specs.Lists.{filter, takeWhile, below}
 use Rattle.model.specs.Model.{piece, lookupId, noId}
 use Rattle.model.specs.Mark.{mark}
 
@@ -35,5 +36,41 @@ unfoldable pub bucketStart : List ℕ → ℕ → ℕ → ℕ
 bucketStart left shift b = length (takeWhile (λ (l : ℕ). ltb l (b * 2 ^ shift)) left)
 
 -- Where the rows of each bucket begin, and at last where they end.
+abbrev pub bucketWords : ℕ
+bucketWords = 4097
+
 unfoldable pub buckets : List ℕ → ℕ → List ℕ
-buckets left shift = map (bucketStart left shift) (below 4097)
+buckets left shift = map (bucketStart left shift) (below bucketWords)
+
+-- The pair table. A pair of ids belongs to one of its 131,072 slots, by two odd numbers below 2^31 that spread the pairs.
+abbrev pub slotCount : ℕ
+slotCount = 131072
+
+unfoldable pub pairSlot : ℕ → ℕ → ℕ
+pairSlot l r = ((l * 1327217885 + r * 1123411259) / 32768) % slotCount
+
+-- The rows whose pairs belong to a slot, in their order.
+unfoldable pub slotRows : List ℕ → List ℕ → ℕ → List ℕ
+slotRows left right slot = filter (λ (i : ℕ). eqb (pairSlot (getD left i 0) (getD right i 0)) slot) (below (length left))
+
+-- The row of lowest rank, the first of equals: of i and those that follow it.
+abbrev pub lowestRow : List ℕ → ℕ → List ℕ → ℕ
+lowestRow rank i [] = i
+lowestRow rank i (j ∷ rows) = lowestRow rank (cond (ltb (getD rank j 0) (getD rank i 0)) j i) rows
+
+-- What a word has more where several rows share its slot.
+abbrev pub shared : ℕ
+shared = 2147483648
+
+-- The word of a slot with these rows: 0 for none, or one more than the place of the row; where there are several, of that with the lowest rank.
+unfoldable pub slotWord : List ℕ → List ℕ → ℕ
+slotWord rank [] = 0
+slotWord rank (i ∷ []) = i + 1
+slotWord rank (i ∷ j ∷ rows) = lowestRow rank i (j ∷ rows) + 1 + shared
+
+unfoldable pub pairWords : List ℕ → List ℕ → List ℕ → List ℕ
+pairWords left right rank = map (λ (slot : ℕ). slotWord rank (slotRows left right slot)) (below slotCount)
+
+-- All that is derived of the merge rows.
+unfoldable pub rowIndex : List ℕ → List ℕ → List ℕ → ℕ → List ℕ
+rowIndex left right rank shift = buckets left shift ++ pairWords left right rank

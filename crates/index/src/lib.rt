@@ -14,7 +14,13 @@ ghost use Rattle.utf8.specs.Lists.{same};
 ghost use Rattle.model.specs.Mark.{mark};
 ghost use Rattle.model.specs.Model.{strings};
 ghost use Rattle.model.specs.inner.Search.{foundId};
-ghost use Rattle.index.specs.inner.Find.{idOf, keyStart, keyEnd, idFrom, rowFrom};
+ghost use Rattle.index.specs.Index.{slotCount, pairSlot};
+ghost use Rattle.index.specs.inner.Find.{idOf, keyStart, keyEnd, idFrom, rowBetween, namedRow, rowHas, rowFrom};
+
+// How many words the buckets take in the index of the rows.
+const BUCKET_WORDS: usize = 4097;
+// What a word of the pair table has more where several rows share its slot.
+const SHARED: usize = 2147483648;
 
 // The id that a number of the index gives.
 pub fn id_of(id: u32) -> Found
@@ -92,19 +98,80 @@ fn bucket_of(shift: u32, l: u32) -> usize
     wide(l >> shift)
 }
 
-// The place of the merge row of the pair `l`, `r`. `buckets` says where the rows of each bucket of left ids begin.
-pub fn find_row_from(
+// The slot of the pair table that a pair belongs to.
+pub fn pair_slot(l: u32, r: u32) -> usize
+    ensures { λ s. ⌜ (s ≡ pairSlot l r) × (s < slotCount) ⌝ }
+{
+    (wide(l) * 1327217885 + wide(r) * 1123411259) / 32768 % 131072
+}
+
+// The row that a word of the pair table names.
+fn named_row(word: u32) -> usize
+    ensures { λ row. ⌜ row ≡ namedRow word ⌝ }
+{
+    let past = wide(word) % SHARED;
+    if past == 0 {
+        return 0;
+    }
+    past - 1
+}
+
+// Whether there is a row at a place, and it is that of the pair `l`, `r`.
+fn row_has(left: &[u32], right: &[u32], row: usize, l: u32, r: u32) -> bool
+    ensures { λ b. ⌜ b ≡ rowHas (now (left .entry)) (now (right .entry)) row l r ⌝ }
+{
+    if left.len() <= row {
+        return false;
+    }
+    if left[row] != l {
+        return false;
+    }
+    number_at(right, row) == r
+}
+
+// The place of the merge row of the pair `l`, `r`, searched among the rows of its left id's bucket.
+fn find_row_in_bucket(
     left: &[u32],
     right: &[u32],
-    buckets: &[u32],
+    row_index: &[u32],
     shift: u32,
     l: u32,
     r: u32,
 ) -> Found
-    ensures { λ f. ⌜ f ≡ rowFrom (now (left .entry)) (now (right .entry)) (now (buckets .entry)) shift l r ⌝ }
+    ensures { λ f. ⌜ f ≡ rowBetween (now (left .entry)) (now (right .entry)) (now («row_index» .entry)) shift l r ⌝ }
 {
     let bucket = bucket_of(shift, l);
-    let start = wide(number_at(buckets, bucket));
-    let end = wide(number_at(buckets, bucket + 1));
+    let next = bucket + 1;
+    if BUCKET_WORDS <= next {
+        return Found::Nothing;
+    }
+    let start = wide(number_at(row_index, bucket));
+    let end = wide(number_at(row_index, next));
     find_row_between(left, right, l, r, start, end)
+}
+
+// The place of the merge row of the pair `l`, `r`. `row_index` says where the rows of each bucket of left ids begin, and behind that
+// which row a pair's slot names.
+pub fn find_row_from(
+    left: &[u32],
+    right: &[u32],
+    row_index: &[u32],
+    shift: u32,
+    l: u32,
+    r: u32,
+) -> Found
+    ensures { λ f. ⌜ f ≡ rowFrom (now (left .entry)) (now (right .entry)) (now («row_index» .entry)) shift l r ⌝ }
+{
+    let word = number_at(row_index, BUCKET_WORDS + pair_slot(l, r));
+    if word == 0 {
+        return Found::Nothing;
+    }
+    let row = named_row(word);
+    if row_has(left, right, row, l, r) {
+        return Found::At(row);
+    }
+    if wide(word) < SHARED {
+        return Found::Nothing;
+    }
+    find_row_in_bucket(left, right, row_index, shift, l, r)
 }

@@ -8,4 +8,3 @@ pub mod WalkLaws
 pub mod TurnLaws
 pub mod FrontLaws
 pub mod ModelLaws
-pub mod MemoLaws

@@ -19,7 +19,7 @@ use Rattle.utf8.proofs.Characters.{chars-nil, chars-step}
 use Rattle.model.specs.Model.{Model, Row, piecesOf, rowOf, mergeRows}
 use Rattle.model.specs.Mark.{mark, space}
 use Rattle.model.proofs.Accepted.{Accepted}
-use Rattle.index.specs.Index.{firstBytes, markId, buckets, bucketShift}
+use Rattle.index.specs.Index.{firstBytes, markId, bucketShift, rowIndex}
 use Rattle.index.proofs.IndexLaws.{id-by-index, row-by-index}
 use Rattle.merge.specs.Start.{vocabularyOf, ownId, startingIdsBy, startingIds, isDroppedBy, isDropped, asMark, unitChars}
 use Rattle.merge.specs.Merge.{Candidate, candidateAt, candidatesFrom, candidates, nextMerge, mergeThen, mergedFor, merged}
@@ -119,7 +119,7 @@ module _ (m : Model) (ok : Accepted m) where
   ownBy = ownFound (m .pieceBytes) (m .pieceOffsets) (m .lookup) (firstBytes (piecesOf m) (m .lookup)) (markId (piecesOf m) (m .lookup))
 
   abbrev pub rowBy : ℕ → ℕ → Option Row
-  rowBy = rowIn (m .left) (m .right) (m .result) (m .rank) (buckets (m .left) (bucketShift (length (piecesOf m)))) (bucketShift (length (piecesOf m)))
+  rowBy = rowIn (m .left) (m .right) (m .result) (m .rank) (rowIndex (m .left) (m .right) (m .rank) (bucketShift (length (piecesOf m)))) (bucketShift (length (piecesOf m)))
 
   pub own-by-model : (char : List ℕ) → getD char 0 0 < 256 → ownBy char ≡ ownId (vocabularyOf m) char
   unfolding ownFound ownId vocabularyOf piecesOf

@@ -1,14 +1,14 @@
 -- Laws of the merge turn by turn: the row of a pair, the next merge among pairs, a merge in place. Assumes nothing.
-use Prim.Native.Nat.{ℕ, suc, _+_, _-_, _/_, _^_, _≤_, _<_, min}
+use Prim.Native.Nat.{ℕ, suc, _+_, _≤_, _<_}
 use native.Mathlib.Omega.{arith}
 use native.Mathlib.Numerals.{add-one}
 use mathlib.Core.Path.{_≡_, refl, sym, ap, _∙_}
 use mathlib.Core.Bool.{Bool, true, false, cond}
 use mathlib.Core.List.{List, [], _∷_, _++_}
 use mathlib.Core.Option.{Option, none, some}
-use borrow.Author.Tests.{leb-true, leb-false, le-leb, lt-leb}
-use lib.Dec.{leb}
-use lib.ListN.{length, take, drop, getD, set, length-append, length-take, length-drop, take-append-drop, drop-of-length-le}
+use borrow.Author.Tests.{leb-true, leb-false, le-leb, lt-leb, lt-ltb, le-ltb}
+use lib.Dec.{leb, ltb}
+use lib.ListN.{length, take, drop, getD, set, length-append, length-drop, take-append-drop, drop-of-length-le}
 use lib.Seq.{drop-cons, take-at, drop-at, take-suc-set, drop-set-lt, length-take-le, getD-drop, set-at, append-snoc}
 use Rattle.utf8.proofs.Writing.{Begins, Written, written-length, written-byte, written-ended}
 use Rattle.utf8.specs.Lists.{neighbours}
@@ -16,41 +16,46 @@ use Rattle.utf8.proofs.Places.{length-neighbours, getD-neighbours}
 use Rattle.model.specs.declared.Found.{Found}
 use Rattle.model.specs.declared.Found.the-variants.{At, Nothing}
 use Rattle.model.specs.Model.{Row}
-use Rattle.model.specs.inner.Search.{rowOrder, rowFound}
-use Rattle.model.proofs.SearchLaws.{found-below}
+use Rattle.model.specs.inner.Search.{rowFound}
 use Rattle.model.proofs.RowLaws.{row-is}
 use Rattle.index.specs.inner.Find.{rowFrom}
+use Rattle.index.proofs.IndexLaws.{found-inside}
 use Rattle.merge.specs.declared.Turn.{Turn}
 use Rattle.merge.specs.declared.Turn.the-variants.{Merge, Stop}
 use Rattle.merge.specs.Merge.{Candidate, candidateAt, candidatesFrom, candidates, lowestRank, nextMerge}
-use Rattle.merge.specs.inner.Turns.{rowIn, turnAt, turnOf, lowerTurn, joinedAt}
+use Rattle.merge.specs.inner.Turns.{rowIn, turnOf, joinedAt}
 use Rattle.merge.proofs.NextLaws.{lowerOf, lowest-append}
+
+-- What a turn does with the pair at a place, by the pair's row.
+abbrev turnAt : ℕ → Option Row → Turn
+turnAt place none = Stop
+turnAt place (some row) = Merge place (row .result) (row .rank)
+
+-- The one of lower rank, of equals the first.
+abbrev lowerTurn : Turn → Turn → Turn
+lowerTurn Stop t = t
+lowerTurn (Merge place result rank) Stop = Merge place result rank
+lowerTurn (Merge place result rank) (Merge place' result' rank') =
+    cond (leb rank rank') (Merge place result rank) (Merge place' result' rank')
 
 -- ---- the row of a pair, by what the search gave
 
-module _ (left right result rank buckets : List ℕ) (shift place l r : ℕ) {f : Found} (found : f ≡ rowFrom left right buckets shift l r) where
-  pub row-at : {i n k : ℕ} → f ≡ At i → n ≡ getD result i 0 → k ≡ getD rank i 0 → Merge place n k ≡ turnAt place (rowIn left right result rank buckets shift l r)
-  unfolding rowIn rowFound rowFrom
-  row-at {i} e n-is k-is =
-      let inside : i < length left = omega (arith, found-below (rowOrder left right l r) (getD buckets (l / 2 ^ shift) 0) (min (getD buckets (l / 2 ^ shift + 1) 0) (length left)) i (sym found ∙ e)) in
-      rw (← found, e) (rw (row-is left right result rank i (record { left = 0; right = 0; result = 0; rank = 0 }) inside, n-is, k-is))
+module _ (left right result rank rowIndex : List ℕ) (shift place l r : ℕ) {f : Found} (found : f ≡ rowFrom left right rowIndex shift l r) where
+  row-at : {i k : ℕ} → f ≡ At i → k ≡ getD rank i 0 → Merge place (getD result i 0) k ≡ turnAt place (rowIn left right result rank rowIndex shift l r)
+  unfolding rowIn rowFound
+  row-at {i} e k-is =
+      let inside : i < length left = found-inside left right rowIndex shift l r (sym found ∙ e) in
+      rw (← found, e) (rw (row-is left right result rank i (record { left = 0; right = 0; result = 0; rank = 0 }) inside, k-is))
 
-  pub row-missing : f ≡ Nothing → Stop ≡ turnAt place (rowIn left right result rank buckets shift l r)
+  row-missing : f ≡ Nothing → Stop ≡ turnAt place (rowIn left right result rank rowIndex shift l r)
   unfolding rowIn rowFound
   row-missing e = rw (← found, e)
 
 -- ---- the lower of two turns
 
-module _ {a b : Turn} {p s k : ℕ} (first : a ≡ Merge p s k) where
-  pub lower-alone : b ≡ Stop → Merge p s k ≡ lowerTurn a b
-  lower-alone second = rw (first, second)
-
-  module _ {q t m : ℕ} (second : b ≡ Merge q t m) where
-    pub lower-first : k ≤ m → Merge p s k ≡ lowerTurn a b
-    lower-first h = rw (first, second) (rw (le-leb k m h))
-
-    pub lower-second : m < k → Merge q t m ≡ lowerTurn a b
-    lower-second h = rw (first, second) (rw (lt-leb k m h))
+lower-stop : (t : Turn) → lowerTurn t Stop ≡ t
+lower-stop Stop = refl
+lower-stop (Merge place result rank) = refl
 
 turn-lower : (o p : Option Candidate) → turnOf (lowerOf o p) ≡ lowerTurn (turnOf o) (turnOf p)
 turn-lower none p = refl
@@ -126,11 +131,72 @@ module _ (row : ℕ → ℕ → Option Row) (ids : List ℕ) where
         })
 
     pub scanned-ended : length ids ≤ p + 1 → best ≡ turnOf (nextMerge row ids)
-    scanned-ended h = sym (s .same ∙ ap (lowerTurn best) (turn-over p h) ∙ go best)
-      where
-        go : (t : Turn) → lowerTurn t Stop ≡ t
-        go Stop = refl
-        go (Merge place result rank) = refl
+    scanned-ended h = sym (s .same ∙ ap (lowerTurn best) (turn-over p h) ∙ lower-stop best)
+
+-- ---- the best so far as numbers: its rank, its place and its row
+
+-- More than any rank, where there is none.
+abbrev noRank : ℕ
+noRank = 4294967296
+
+abbrev bestTurn : List ℕ → ℕ → ℕ → ℕ → Turn
+bestTurn result rank place row = cond (ltb rank noRank) (Merge place (getD result row 0) rank) Stop
+
+best-some : (result : List ℕ) (rank place row : ℕ) → rank < noRank → bestTurn result rank place row ≡ Merge place (getD result row 0) rank
+best-some result rank place row h = rw (lt-ltb rank noRank h)
+
+module _ (result : List ℕ) (best place row p n k : ℕ) (small : k < noRank) where
+  lower-taken : k < best → lowerTurn (bestTurn result best place row) (Merge p n k) ≡ Merge p n k
+  lower-taken l = go (ltb best noRank)
+    where
+      go : (b : Bool) → lowerTurn (cond b (Merge place (getD result row 0) best) Stop) (Merge p n k) ≡ Merge p n k
+      go true = rw (lt-leb best k l)
+      go false = refl
+
+  lower-kept : best ≤ k → lowerTurn (bestTurn result best place row) (Merge p n k) ≡ bestTurn result best place row
+  lower-kept l = rw (lt-ltb best noRank (omega arith)) (rw (le-leb best k l))
+
+-- These numbers are what the pairs before p give.
+pub record Best (row : ℕ → ℕ → Option Row) (ids result : List ℕ) (rank place at p : ℕ) : Type 0 where
+  pub scanned : Scanned row ids (bestTurn result rank place at) p
+
+module _ (row : ℕ → ℕ → Option Row) (ids result : List ℕ) where
+  pub best-start : (place at : ℕ) → Best row ids result noRank place at 0
+  best-start place at = record { scanned = scanned-start row ids }
+
+  module _ {rank place at p : ℕ} (b : Best row ids result rank place at p) (last : length ids ≤ p + 1) where
+    pub best-none : noRank ≤ rank → Stop ≡ turnOf (nextMerge row ids)
+    best-none h = sym (rw (le-ltb rank noRank h)) ∙ scanned-ended row ids (b .scanned) last
+
+    pub best-merge : {n : ℕ} → rank < noRank → n ≡ getD result at 0 → Merge place n rank ≡ turnOf (nextMerge row ids)
+    best-merge h e = rw e (sym (best-some result rank place at h) ∙ scanned-ended row ids (b .scanned) last)
+
+module _ (left right result rank rowIndex : List ℕ) (shift : ℕ) (ids : List ℕ) where
+  abbrev rowOfPair : ℕ → ℕ → Option Row
+  rowOfPair = rowIn left right result rank rowIndex shift
+
+  module _ {best place at p : ℕ} (b : Best rowOfPair ids result best place at p) {next : ℕ} (is : next ≡ p + 1) (h : next < length ids) {f : Found} (found : f ≡ rowFrom left right rowIndex shift (getD ids p 0) (getD ids next 0)) where
+    pub best-missing : f ≡ Nothing → Best rowOfPair ids result best place at next
+    best-missing e =
+        record {
+          scanned =
+              scanned-next rowOfPair ids (b .scanned) is h (row-missing left right result rank rowIndex shift p (getD ids p 0) (getD ids next 0) found e) (sym (lower-stop (bestTurn result best place at)));
+        }
+
+    module _ {i k : ℕ} (e : f ≡ At i) (k-is : k ≡ getD rank i 0) (small : k < noRank) where
+      this : Merge p (getD result i 0) k ≡ turnAt p (rowOfPair (getD ids p 0) (getD ids next 0))
+      this = row-at left right result rank rowIndex shift p (getD ids p 0) (getD ids next 0) found e k-is
+
+      pub best-lower : k < best → Best rowOfPair ids result k p i next
+      best-lower l =
+          record {
+            scanned =
+                scanned-next rowOfPair ids (b .scanned) is h this (best-some result k p i small ∙ sym (lower-taken result best place at p (getD result i 0) k small l));
+          }
+
+      pub best-kept : best ≤ k → Best rowOfPair ids result best place at next
+      best-kept l =
+          record { scanned = scanned-next rowOfPair ids (b .scanned) is h this (sym (lower-kept result best place at p (getD result i 0) k small l)) }
 
 -- ---- one merge in place
 

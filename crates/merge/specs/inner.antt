@@ -1,4 +1,3 @@
 -- What only the inner functions' contracts need.
 pub mod Laid
 pub mod Turns
-pub mod Memo

@@ -1,5 +1,4 @@
 // The starting ids of a unit and their ranked merge.
-mod memo;
 pub mod ranked;
 pub mod start;
 

@@ -1,66 +1,18 @@
 // The plain ranked merge, in place.
 use crate::Turn;
-use crate::memo::known_row;
 use index::find_row_from;
 use model::Found;
 use model::tables::lesser;
 use model::tables::number_at;
+use model::tables::wide;
 ghost use mathlib.Core.Path.{_≡_};
 ghost use Prim.Native.Nat.{_+_, _≤_};
 ghost use lib.ListN.{length};
 ghost use Rattle.merge.specs.Merge.{nextMerge};
-ghost use Rattle.merge.specs.inner.Memo.{Memo, Known};
-ghost use Rattle.merge.specs.inner.Turns.{rowIn, turnAt, turnOf, lowerTurn, joinedAt, Merged, mergedFront};
+ghost use Rattle.merge.specs.inner.Turns.{rowIn, turnOf, joinedAt, Merged, mergedFront};
 
-// What a turn does with the pair `l`, `r` at `place`.
-pub(crate) fn row_of_pair(
-    left: &[u32],
-    right: &[u32],
-    result: &[u32],
-    rank: &[u32],
-    buckets: &[u32],
-    shift: u32,
-    place: usize,
-    l: u32,
-    r: u32,
-) -> Turn
-    ensures { λ t. ⌜ t ≡ turnAt place (rowIn (now (left .entry)) (now (right .entry)) (now (result .entry)) (now (rank .entry)) (now (buckets .entry)) shift l r) ⌝ }
-{
-    match find_row_from(left, right, buckets, shift, l, r) {
-        Found::At(i) => Turn::Merge {
-            place: place,
-            result: number_at(result, i),
-            rank: number_at(rank, i),
-        },
-        Found::Nothing => Turn::Stop,
-    }
-}
-
-// The turn of lower rank, of equals the first.
-fn lower(first: Turn, second: Turn) -> Turn
-    ensures { λ t. ⌜ t ≡ lowerTurn first second ⌝ }
-{
-    match first {
-        Turn::Stop => second,
-        Turn::Merge {
-            place: _,
-            result: _,
-            rank,
-        } => match second {
-            Turn::Stop => first,
-            Turn::Merge {
-                place: _,
-                result: _,
-                rank: other,
-            } => {
-                if rank <= other {
-                    return first;
-                }
-                second
-            }
-        },
-    }
-}
+// More than any rank.
+const NO_RANK: usize = 4294967296;
 
 // The next merge among adjacent ids: the lowest rank, the leftmost of equals.
 fn next_merge(
@@ -68,35 +20,46 @@ fn next_merge(
     right: &[u32],
     result: &[u32],
     rank: &[u32],
-    buckets: &[u32],
+    row_index: &[u32],
     shift: u32,
-    memo: &mut [u32],
     ids: &[u32],
 ) -> Turn
-    requires { ⌜ Memo (rowIn (now left) (now right) (now result) (now rank) (now buckets) shift) (now memo) ⌝ }
-    ensures { λ t. ⌜ Known (rowIn (now (left .entry)) (now (right .entry)) (now (result .entry)) (now (rank .entry)) (now (buckets .entry)) shift) t (turnOf (nextMerge (rowIn (now (left .entry)) (now (right .entry)) (now (result .entry)) (now (rank .entry)) (now (buckets .entry)) shift) (now (ids .entry)))) (now (memo .exit)) ⌝ }
+    ensures { λ t. ⌜ t ≡ turnOf (nextMerge (rowIn (now (left .entry)) (now (right .entry)) (now (result .entry)) (now (rank .entry)) (now («row_index» .entry)) shift) (now (ids .entry))) ⌝ }
 {
-    let mut best = Turn::Stop;
+    let mut best = NO_RANK;
+    let mut best_place = 0;
+    let mut best_row = 0;
     let mut place = 0;
     let mut next = 1;
     while next < ids.len() {
-        let turn = known_row(
-            left,
-            right,
-            result,
-            rank,
-            buckets,
-            shift,
-            memo,
-            place,
-            ids[place],
-            ids[next],
-        );
-        best = lower(best, turn);
-        place = next;
-        next += 1;
+        match find_row_from(left, right, row_index, shift, ids[place], ids[next]) {
+            Found::At(row) => {
+                let this = wide(number_at(rank, row));
+                if this < best {
+                    best = this;
+                    best_place = place;
+                    best_row = row;
+                    place = next;
+                    next += 1;
+                } else {
+                    place = next;
+                    next += 1;
+                }
+            }
+            Found::Nothing => {
+                place = next;
+                next += 1;
+            }
+        }
     }
-    best
+    if NO_RANK <= best {
+        return Turn::Stop;
+    }
+    Turn::Merge {
+        place: best_place,
+        result: number_at(result, best_row),
+        rank: best as u32,
+    }
 }
 
 // Puts `result` in the place of a pair: what follows moves one cell to the left, and the last becomes zero.
@@ -121,26 +84,16 @@ pub fn bpe_merge_symbols_ranked(
     right: &[u32],
     result: &[u32],
     rank: &[u32],
-    buckets: &[u32],
+    row_index: &[u32],
     shift: u32,
     ids: &mut [u32],
     count: usize,
 ) -> usize
-    ensures { λ n. ⌜ _≡_ {A = Merged} (record { count = n; ids = now (ids .exit) }) (mergedFront (rowIn (now (left .entry)) (now (right .entry)) (now (result .entry)) (now (rank .entry)) (now (buckets .entry)) shift) count (now (ids .entry))) ⌝ }
+    ensures { λ n. ⌜ _≡_ {A = Merged} (record { count = n; ids = now (ids .exit) }) (mergedFront (rowIn (now (left .entry)) (now (right .entry)) (now (result .entry)) (now (rank .entry)) (now («row_index» .entry)) shift) count (now (ids .entry))) ⌝ }
 {
-    let mut memo = [0u32; 160];
     let mut n = lesser(count, ids.len());
     loop {
-        match next_merge(
-            left,
-            right,
-            result,
-            rank,
-            buckets,
-            shift,
-            &mut memo,
-            &ids[..n],
-        ) {
+        match next_merge(left, right, result, rank, row_index, shift, &ids[..n]) {
             Turn::Stop => {
                 return n;
             }

@@ -64,6 +64,13 @@ piece-row bytes offsets e = not-empty offsets (or-left (isEmpty offsets) (ltb 52
 piece-limit : (bytes offsets : List ℕ) → wrongPieceSizes bytes offsets ≡ false → length offsets - 1 ≤ 524288
 piece-limit bytes offsets e = ltb-false 524288 (length offsets - 1) (or-right (isEmpty offsets) (ltb 524288 (length offsets - 1)) (few-offsets bytes offsets e))
 
+byte-limit : (bytes offsets : List ℕ) → wrongPieceSizes bytes offsets ≡ false → length bytes ≤ 8388608
+unfolding wrongPieceSizes
+byte-limit bytes offsets e =
+    ltb-false 8388608 (length bytes)
+    (or-right (isEmpty offsets || ltb 524288 (length offsets - 1)) (ltb 8388608 (length bytes))
+    (or-left (isEmpty offsets || ltb 524288 (length offsets - 1) || ltb 8388608 (length bytes)) (stringTooLong offsets) e))
+
 row-limit : (left right result rank : List ℕ) → wrongRowSizes left right result rank ≡ false → length left ≤ 1048576
 unfolding wrongRowSizes
 row-limit left right result rank e = ltb-false 1048576 (length left) (or-left (ltb 1048576 (length left)) _ e)
@@ -116,6 +123,7 @@ step-count steps count e = ltb-false 16 count (or-left (ltb 16 count) (any spanT
 pub record SizesFine (m : Model) : Type 0 where
   pub pieceRow : 0 < length (m .pieceOffsets)
   pub pieceLimit : length (m .pieceOffsets) - 1 ≤ 524288
+  pub byteLimit : length (m .pieceBytes) ≤ 8388608
   pub rowLimit : length (m .left) ≤ 1048576
   pub fallbackLong : length (m .fallback) ≡ 256
   pub rows : RowColumns (m .left) (m .right) (m .result) (m .rank)
@@ -138,6 +146,7 @@ sizes-fine m e =
     record {
       pieceRow = piece-row (m .pieceBytes) (m .pieceOffsets) (or-left a b two);
       pieceLimit = piece-limit (m .pieceBytes) (m .pieceOffsets) (or-left a b two);
+      byteLimit = byte-limit (m .pieceBytes) (m .pieceOffsets) (or-left a b two);
       rowLimit = row-limit (m .left) (m .right) (m .result) (m .rank) (or-right (a || b) c three);
       fallbackLong = eqb-true (length (m .fallback)) 256 (not-false _ (or-right a b two));
       rows = row-columns (m .left) (m .right) (m .result) (m .rank) (or-right (a || b) c three);

@@ -1,7 +1,7 @@
 -- Laws of a buffer that is cleared from a place to its end.
 use mathlib.Core.Path.{_≡_, sym, ap, _∙_}
 use mathlib.Core.List.{List, [], _∷_, _++_, append-assoc, append-nil}
-use Prim.Native.Nat.{ℕ, suc, _+_, _-_, _≤_, _<_}
+use Prim.Native.Nat.{ℕ, suc, _+_, _-_, _≤_, _<_, max}
 use native.Mathlib.Numerals.{add-one}
 use native.Mathlib.Omega.{arith}
 use lib.ListN.{length, take, set, replicate-append-replicate}
@@ -22,8 +22,8 @@ cleared-none front start =
     let none : 0 ≡ start - start = omega arith in
     sym (append-nil front) ∙ ap (λ (n : ℕ). front ++ zeros n) none
 
--- All is cleared.
-pub cleared-all : (front out : List ℕ) (start i n : ℕ) → length out ≤ i → i ≤ n → length out ≡ n → take i out ≡ front ++ zeros (i - start) → out ≡ front ++ zeros (n - start)
-cleared-all front out start i n h k l e =
-    let all : i ≡ n = omega arith in
-    sym (take-all i out h) ∙ e ∙ ap (λ (m : ℕ). front ++ zeros (m - start)) all
+-- All is cleared, which may have been nothing.
+pub cleared-all : (front out : List ℕ) (start i n : ℕ) → length out ≤ i → start ≤ i → i ≤ max start n → length out ≡ n → take i out ≡ front ++ zeros (i - start) → out ≡ front ++ zeros (n - start)
+cleared-all front out start i n h s k l e =
+    let all : i - start ≡ n - start = omega arith in
+    sym (take-all i out h) ∙ e ∙ ap (λ (m : ℕ). front ++ zeros m) all

@@ -12,6 +12,7 @@ ghost use Rattle.model.specs.Model.{modelOf, tokenList};
 ghost use Rattle.model.specs.Answers.{done, refused};
 ghost use Rattle.model.specs.Check.{checkOutcome};
 
+pub mod clear;
 pub mod compare;
 pub mod fallback;
 mod lookup;

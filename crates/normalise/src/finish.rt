@@ -2,30 +2,17 @@
 use crate::Ran;
 use crate::copy::copy_at;
 use model::Answer;
+use model::clear::clear_bytes;
 use model::tables::part;
 ghost use mathlib.Core.Path.{_≡_};
-ghost use mathlib.Core.List.{_++_};
-ghost use Prim.Native.Nat.{_-_, _≤_};
-ghost use lib.ListN.{length, take};
+ghost use lib.ListN.{length};
 ghost use Rattle.model.specs.Answers.{Outcome, zeros};
 ghost use Rattle.normalise.specs.inner.Run.{standing, finished, ended};
-
-// Zeros from `start` to the buffer's end.
-fn clear_from(out: &mut [u8], start: usize)
-    requires { ⌜ start ≤ length (now out) ⌝ }
-    ensures { λ _. ⌜ now (out .exit) ≡ take start (now (out .entry)) ++ zeros (length (now (out .entry)) - start) ⌝ }
-{
-    let mut i = start;
-    while i < out.len() {
-        out[i] = 0;
-        i += 1;
-    }
-}
 
 pub fn clear(buffer: &mut [u8])
     ensures { λ _. ⌜ now (buffer .exit) ≡ zeros (length (now (buffer .entry))) ⌝ }
 {
-    clear_from(buffer, 0);
+    clear_bytes(buffer, 0);
 }
 
 // The result in the buffer, where it fits.
@@ -36,7 +23,7 @@ fn finish(result: &[u8], out: &mut [u8]) -> Answer
         return Answer::refused(model::RESULT_TOO_SHORT, 0);
     }
     copy_at(out, 0, result);
-    clear_from(out, result.len());
+    clear_bytes(out, result.len());
     Answer::done(result.len(), 0, 0)
 }
 

@@ -7,7 +7,7 @@ use lib.ListN.{length, take, drop, set, length-append, length-drop, take-append-
 use lib.Seq.{take-at, drop-at, drop-drop, drop-append-add, length-take-le}
 use Rattle.utf8.proofs.Fronts.{length-row}
 use Rattle.utf8.proofs.Writing.{Written, written-start, written-byte, written-part, written-length, written-ended}
-use Rattle.index.specs.Index.{firstByteStart, firstBytes, markId, bucketShift, bucketStart, buckets}
+use Rattle.index.specs.Index.{firstByteStart, firstBytes, markId, bucketShift, bucketStart, buckets, slotRows, slotWord, pairWords, rowIndex}
 use Rattle.sections.specs.Beginnings.{beginnings, longestContent}
 use Rattle.sections.proofs.SeekLaws.{length-beginnings}
 use Rattle.prepare.specs.Layout.{pieceWords, tokenWords, indexRow}
@@ -20,27 +20,43 @@ pub length-buckets : (left : List ℕ) (shift : ℕ) → length (buckets left sh
 unfolding buckets
 length-buckets left shift = length-row (bucketStart left shift) 4097
 
+pub length-pairWords : (left right rank : List ℕ) → length (pairWords left right rank) ≡ 131072
+unfolding pairWords
+length-pairWords left right rank = length-row (λ (slot : ℕ). slotWord rank (slotRows left right slot)) 131072
+
+pub length-rowIndex : (left right rank : List ℕ) (shift : ℕ) → length (rowIndex left right rank shift) ≡ 135169
+unfolding rowIndex
+length-rowIndex left right rank shift = omega (arith, length-append (buckets left shift) (pairWords left right rank), length-buckets left shift, length-pairWords left right rank)
+
+-- A part of a buffer that was lent, and came back as a row of its own length.
+pub lent-back : (a k e : ℕ) (xs ys : List ℕ) (row : ℕ → List ℕ) → a + k ≡ e → e ≤ length xs → ys ≡ row (length (take k (drop a xs)))
+    → take a xs ++ (ys ++ drop k (drop a xs)) ≡ take a xs ++ row k ++ drop e xs
+lent-back a k e xs ys row s h r =
+    let long : length (take k (drop a xs)) ≡ k = length-take-le k (drop a xs) (omega (arith, length-drop a xs)) in
+    sym (append-assoc (take a xs) ys (drop k (drop a xs)))
+    ∙ ap₂ (λ (y z : List ℕ). take a xs ++ y ++ z) (r ∙ ap row long) (drop-drop k a xs ∙ ap (λ (n : ℕ). drop n xs) s)
+
 -- ---- what is derived of pieces and rows
 
-module _ (kind raw count : ℕ) (noted : List ℕ) (pieces : List (List ℕ)) (lookup left : List ℕ) (all-noted : length noted ≡ 64) where
+module _ (kind raw count : ℕ) (noted : List ℕ) (pieces : List (List ℕ)) (lookup left right rank : List ℕ) (all-noted : length noted ≡ 64) where
   abbrev row : List ℕ
-  row = pieceWords kind raw count noted pieces lookup left
+  row = pieceWords kind raw count noted pieces lookup left right rank
 
   abbrev shift : ℕ
   shift = bucketShift (length pieces)
 
   abbrev starts : List ℕ
-  starts = firstBytes pieces lookup ++ buckets left shift
+  starts = firstBytes pieces lookup ++ rowIndex left right rank shift
 
-  pub length-pieceWords : length row ≡ 4423
+  pub length-pieceWords : length row ≡ 135495
   unfolding pieceWords
   length-pieceWords =
       omega
-      (arith, length-append noted (markId pieces lookup ∷ shift ∷ starts), length-append (firstBytes pieces lookup) (buckets left shift), length-firstBytes pieces lookup, length-buckets left shift)
+      (arith, length-append noted (markId pieces lookup ∷ shift ∷ starts), length-append (firstBytes pieces lookup) (rowIndex left right rank shift), length-firstBytes pieces lookup, length-rowIndex left right rank shift)
 
   -- ---- its parts written one after the other
 
-  module _ (before : List ℕ) (room : 4423 ≤ length before) where
+  module _ (before : List ℕ) (room : 135495 ≤ length before) where
     fits : length row ≤ length before
     fits = omega (arith, length-pieceWords)
 
@@ -71,39 +87,43 @@ module _ (kind raw count : ℕ) (noted : List ℕ) (pieces : List (List ℕ)) (l
         marked-written = rw (mark-is, shift-is) (written-byte fits (written-byte fits crossed-written (record { is = refl })) (record { is = refl }))
 
         module _ (started : List ℕ) (f : started ≡ take 69 marked ++ firstBytes pieces lookup ++ drop (69 + 257) marked) where
-          started-written : Written row (buckets left shift) before started 326
+          started-written : Written row (rowIndex left right rank shift) before started 326
           started-written =
               let long = length-firstBytes pieces lookup in
               let at : 69 + length (firstBytes pieces lookup) ≡ 326 = omega arith in
-              let step = written-part fits marked-written {part = firstBytes pieces lookup} {rest = buckets left shift} (record { is = refl }) in
+              let step = written-part fits marked-written {part = firstBytes pieces lookup} {rest = rowIndex left right rank shift} (record { is = refl }) in
               rw (f, ← at) step
 
           pub started-long : length started ≡ length before
           started-long = written-length fits started-written
 
-          module _ (last : List ℕ) (g : last ≡ take 326 started ++ buckets left by ++ drop (326 + 4097) started) where
-            last-written : Written row [] before last 4423
-            last-written =
+          module _ (bucketed : List ℕ) (g : bucketed ≡ take 326 started ++ buckets left by ++ drop (326 + 4097) started) where
+            bucketed-written : Written row (pairWords left right rank) before bucketed 4423
+            unfolding rowIndex
+            bucketed-written =
                 let long = length-buckets left shift in
                 let at : 326 + length (buckets left shift) ≡ 4423 = omega arith in
-                let step = written-part fits started-written {part = buckets left shift} {rest = []} (record { is = sym (append-nil (buckets left shift)) }) in
+                let step = written-part fits started-written {part = buckets left shift} {rest = pairWords left right rank} (record { is = refl }) in
                 rw (g, shift-is, ← at) step
 
-            pub last-long : length last ≡ length before
-            last-long = written-length fits last-written
+            pub bucketed-long : length bucketed ≡ length before
+            bucketed-long = written-length fits bucketed-written
 
-            pub pieces-filled : last ≡ row ++ drop 4423 before
-            pieces-filled = written-ended fits last-written refl ∙ rw length-pieceWords
+            module _ (last : List ℕ) (p : last ≡ take 4423 bucketed ++ pairWords left right rank ++ drop 135495 bucketed) where
+              last-written : Written row [] before last 135495
+              last-written =
+                  let long = length-pairWords left right rank in
+                  let at : 4423 + length (pairWords left right rank) ≡ 135495 = omega arith in
+                  let step = written-part fits bucketed-written {part = pairWords left right rank} {rest = []} (record { is = sym (append-nil (pairWords left right rank)) }) in
+                  rw (p, ← at) step
+
+              pub last-long : length last ≡ length before
+              last-long = written-length fits last-written
+
+              pub pieces-filled : last ≡ row ++ drop 135495 before
+              pieces-filled = written-ended fits last-written refl ∙ rw length-pieceWords
 
 -- ---- what is derived of the token lists
-
--- A part of a buffer that was lent, and came back as a row of its own length.
-pub lent-back : (a k e : ℕ) (xs ys : List ℕ) (row : ℕ → List ℕ) → a + k ≡ e → e ≤ length xs → ys ≡ row (length (take k (drop a xs)))
-    → take a xs ++ (ys ++ drop k (drop a xs)) ≡ take a xs ++ row k ++ drop e xs
-lent-back a k e xs ys row s h r =
-    let long : length (take k (drop a xs)) ≡ k = length-take-le k (drop a xs) (omega (arith, length-drop a xs)) in
-    sym (append-assoc (take a xs) ys (drop k (drop a xs)))
-    ∙ ap₂ (λ (y z : List ℕ). take a xs ++ y ++ z) (r ∙ ap row long) (drop-drop k a xs ∙ ap (λ (n : ℕ). drop n xs) s)
 
 module _ (first second : List (List ℕ)) where
   pub length-tokenWords : length (tokenWords first second) ≡ 513
@@ -112,71 +132,76 @@ module _ (first second : List (List ℕ)) where
       omega
       (arith, length-append (beginnings first 256) (beginnings second 256 ++ (longestContent first ∷ [])), length-append (beginnings second 256) (longestContent first ∷ []), length-beginnings first 256, length-beginnings second 256)
 
-  module _ (before : List ℕ) (room : 4936 ≤ length before) where
+  module _ (before : List ℕ) (room : 136008 ≤ length before) where
     abbrev output : List ℕ
-    output = take 4423 before ++ tokenWords first second
+    output = take 135495 before ++ tokenWords first second
 
-    front-long : length (take 4423 before) ≡ 4423
-    front-long = length-take-le 4423 before (omega arith)
+    front-long : length (take 135495 before) ≡ 135495
+    front-long = length-take-le 135495 before (omega arith)
 
-    length-output : length output ≡ 4936
-    length-output = omega (arith, length-append (take 4423 before) (tokenWords first second), front-long, length-tokenWords)
+    length-output : length output ≡ 136008
+    length-output = omega (arith, length-append (take 135495 before) (tokenWords first second), front-long, length-tokenWords)
 
     token-room : length output ≤ length before
     token-room = omega (arith, length-output)
 
-    tokens-start : Written output (tokenWords first second) before before 4423
+    tokens-start : Written output (tokenWords first second) before before 135495
     tokens-start = record {
       within = omega (arith, length-output);
-      left = drop-at (take 4423 before) (tokenWords first second) 4423 front-long;
-      front = sym (ap (λ (l : List ℕ). l ++ drop 4423 before) (take-at (take 4423 before) (tokenWords first second) 4423 front-long) ∙ take-append-drop 4423 before);
+      left = drop-at (take 135495 before) (tokenWords first second) 135495 front-long;
+      front = sym (ap (λ (l : List ℕ). l ++ drop 135495 before) (take-at (take 135495 before) (tokenWords first second) 135495 front-long) ∙ take-append-drop 135495 before);
     }
 
-    module _ (one : List ℕ) (e : one ≡ take 4423 before ++ beginnings first 256 ++ drop 4679 before) where
-      one-written : Written output (beginnings second 256 ++ (longestContent first ∷ [])) before one 4679
+    module _ (one : List ℕ) (e : one ≡ take 135495 before ++ beginnings first 256 ++ drop 135751 before) where
+      one-written : Written output (beginnings second 256 ++ (longestContent first ∷ [])) before one 135751
       unfolding tokenWords
       one-written =
           let long = length-beginnings first 256 in
-          let at : 4423 + length (beginnings first 256) ≡ 4679 = omega arith in
+          let at : 135495 + length (beginnings first 256) ≡ 135751 = omega arith in
           let step = written-part token-room tokens-start {part = beginnings first 256} {rest = beginnings second 256 ++ (longestContent first ∷ [])} (record { is = refl }) in
           rw (e, ← at) step
 
       pub one-long : length one ≡ length before
       one-long = written-length token-room one-written
 
-      module _ (two : List ℕ) (f : two ≡ take 4679 one ++ beginnings second 256 ++ drop 4935 one) where
-        two-written : Written output (longestContent first ∷ []) before two 4935
+      module _ (two : List ℕ) (f : two ≡ take 135751 one ++ beginnings second 256 ++ drop 136007 one) where
+        two-written : Written output (longestContent first ∷ []) before two 136007
         two-written =
             let long = length-beginnings second 256 in
-            let at : 4679 + length (beginnings second 256) ≡ 4935 = omega arith in
+            let at : 135751 + length (beginnings second 256) ≡ 136007 = omega arith in
             let step = written-part token-room one-written {part = beginnings second 256} {rest = longestContent first ∷ []} (record { is = refl }) in
             rw (f, ← at) step
 
         pub two-long : length two ≡ length before
         two-long = written-length token-room two-written
 
-        pub tokens-filled : (longest : ℕ) → longest ≡ longestContent first → set two 4935 longest ≡ take 4423 before ++ tokenWords first second ++ drop 4936 before
+        pub tokens-filled : (longest : ℕ) → longest ≡ longestContent first → set two 136007 longest ≡ take 135495 before ++ tokenWords first second ++ drop 136008 before
         tokens-filled longest g =
-            ap (set two 4935) g
+            ap (set two 136007) g
             ∙ written-ended token-room (written-byte token-room two-written {rest = []} (record { is = refl })) refl
             ∙ ap (λ (n : ℕ). output ++ drop n before) length-output
 
 -- ---- both
 
-module _ (kind raw count : ℕ) (noted : List ℕ) (pieces : List (List ℕ)) (lookup left : List ℕ) (first second : List (List ℕ)) (all-noted : length noted ≡ 64) where
+-- A row of m words put behind one of n, which stand at the front of a buffer.
+behind-front : (front row : List ℕ) (n m : ℕ) → length front ≡ n → (before written last : List ℕ) → written ≡ front ++ drop n before → last ≡ take n written ++ row ++ drop (n + m) written
+    → last ≡ front ++ row ++ drop (n + m) before
+behind-front front row n m long before written last e f =
+    let behind : drop (n + m) (front ++ drop n before) ≡ drop (n + m) before = ap (λ (k : ℕ). drop (k + m) (front ++ drop n before)) (sym long) ∙ drop-append-add front (drop n before) m ∙ drop-drop m n before in
+    f ∙ rw (e, take-at front (drop n before) n long, behind)
+
+module _ (kind raw count : ℕ) (noted : List ℕ) (pieces : List (List ℕ)) (lookup left right rank : List ℕ) (first second : List (List ℕ)) (all-noted : length noted ≡ 64) where
   abbrev front : List ℕ
-  front = pieceWords kind raw count noted pieces lookup left
+  front = pieceWords kind raw count noted pieces lookup left right rank
 
-  front-4423 : length front ≡ 4423
-  front-4423 = length-pieceWords kind raw count noted pieces lookup left all-noted
+  front-is : length front ≡ 135495
+  front-is = length-pieceWords kind raw count noted pieces lookup left right rank all-noted
 
-  pub length-index : length (indexRow kind raw count noted pieces lookup left first second) ≡ 4936
+  pub length-index : length (indexRow kind raw count noted pieces lookup left right rank first second) ≡ 136008
   unfolding indexRow
-  length-index = omega (arith, length-append front (tokenWords first second), front-4423, length-tokenWords first second)
+  length-index = omega (arith, length-append front (tokenWords first second), front-is, length-tokenWords first second)
 
-  pub index-filled : (before written last : List ℕ) → written ≡ front ++ drop 4423 before → last ≡ take 4423 written ++ tokenWords first second ++ drop 4936 written
-      → last ≡ indexRow kind raw count noted pieces lookup left first second ++ drop 4936 before
+  pub index-filled : (before written last : List ℕ) → written ≡ front ++ drop 135495 before → last ≡ take 135495 written ++ tokenWords first second ++ drop 136008 written
+      → last ≡ indexRow kind raw count noted pieces lookup left right rank first second ++ drop 136008 before
   unfolding indexRow
-  index-filled before written last e f =
-      let behind : drop 4936 (front ++ drop 4423 before) ≡ drop 4936 before = ap (λ (n : ℕ). drop (n + 513) (front ++ drop 4423 before)) (sym front-4423) ∙ drop-append-add front (drop 4423 before) 513 ∙ drop-drop 513 4423 before in
-      f ∙ rw (e, take-at front (drop 4423 before) 4423 front-4423, behind)
+  index-filled before written last = behind-front front (tokenWords first second) 135495 513 front-is before written last

@@ -35,7 +35,7 @@ use Rattle.prepare.specs.inner.Derive.{indexOf}
 
 module _ (m : Model) (rows index : List ℕ) where
   abbrev short : Bool
-  short = ltb (length rows) 1024 || ltb (length index) 4936
+  short = ltb (length rows) 1024 || ltb (length index) 136008
 
   -- A refusal leaves both rows as they were.
   abbrev kept : ℕ → PrepareOutcome
@@ -60,13 +60,13 @@ module _ (m : Model) (rows index : List ℕ) where
     unfolding prepareOutcome
     short-rows h = rw (later, lt-ltb (length rows) 1024 h)
 
-    pub short-index : 1024 ≤ length rows → length index < 4936 → prepareOutcome m rows index ≡ kept 12
+    pub short-index : 1024 ≤ length rows → length index < 136008 → prepareOutcome m rows index ≡ kept 12
     unfolding prepareOutcome
-    short-index h k = rw (later, le-ltb (length rows) 1024 h, lt-ltb (length index) 4936 k)
+    short-index h k = rw (later, le-ltb (length rows) 1024 h, lt-ltb (length index) 136008 k)
 
-    pub prepared : 1024 ≤ length rows → 4936 ≤ length index → prepareOutcome m rows index ≡ record { answer = done 5960 0 0; adjacency = filled (derivedAdjacency m) rows; index = filled (derivedIndex m) index }
+    pub prepared : 1024 ≤ length rows → 136008 ≤ length index → prepareOutcome m rows index ≡ record { answer = done 137032 0 0; adjacency = filled (derivedAdjacency m) rows; index = filled (derivedIndex m) index }
     unfolding prepareOutcome
-    prepared h k = rw (later, le-ltb (length rows) 1024 h, le-ltb (length index) 4936 k)
+    prepared h k = rw (later, le-ltb (length rows) 1024 h, le-ltb (length index) 136008 k)
 
 -- ---- crossings that are noted
 
@@ -104,7 +104,7 @@ module _ (pieces : List (List ℕ)) (metaspace : Metaspace) where
       length-append words (zeros (64 - length words)) ∙ omega (arith, words-long places, few-noted, length-replicate {A = ℕ} (64 - length words) 0)
 
 -- The index of what was derived one by one.
-module _ (pieces : List (List ℕ)) (lookup left : List ℕ) (first second : List (List ℕ)) (bytes : List ℕ) (steps : List Step) (metaspace : Metaspace) (split : WordSplit) (count : ℕ) (noted : List ℕ) (is : _≡_ {A = Noting} (record { kind = split; count = count; noted = noted }) (noting pieces (wordSplit (crossings pieces) metaspace))) where
+module _ (pieces : List (List ℕ)) (lookup left right rank : List ℕ) (first second : List (List ℕ)) (bytes : List ℕ) (steps : List Step) (metaspace : Metaspace) (split : WordSplit) (count : ℕ) (noted : List ℕ) (is : _≡_ {A = Noting} (record { kind = split; count = count; noted = noted }) (noting pieces (wordSplit (crossings pieces) metaspace))) where
   pub count-small : count ≤ 32
   count-small = omega (arith, ap (λ (n : Noting). n .count) is, few-counted pieces metaspace)
 
@@ -116,7 +116,7 @@ module _ (pieces : List (List ℕ)) (lookup left : List ℕ) (first second : Lis
   kind-is = ap (λ (n : Noting). n .kind) is
 
   pub index-derived : (path : RawPath) (kindWord pathWord : ℕ) → path ≡ rawPathBy split (isEmpty second) bytes steps metaspace → kindWord ≡ kindNumber split → pathWord ≡ rawPathNumber path
-      → indexRow kindWord pathWord count noted pieces lookup left first second ≡ indexOf pieces lookup left first second bytes steps metaspace
+      → indexRow kindWord pathWord count noted pieces lookup left right rank first second ≡ indexOf pieces lookup left right rank first second bytes steps metaspace
   unfolding indexOf
   index-derived path kindWord pathWord p k q =
       let c : count ≡ noting pieces (wordSplit (crossings pieces) metaspace) .count = ap (λ (n : Noting). n .count) is in
@@ -130,7 +130,7 @@ length-adjacency pieces = length-row (adjacencyWord pieces) 1024
 -- ---- a whole model
 
 module _ (m : Model) where
-  pub index-of : indexOf (piecesOf m) (m .lookup) (m .left) (contents (m .first)) (contents (m .second)) (m .stepBytes) (stepsOf m) (m .metaspace) ≡ derivedIndex m
+  pub index-of : indexOf (piecesOf m) (m .lookup) (m .left) (m .right) (m .rank) (contents (m .first)) (contents (m .second)) (m .stepBytes) (stepsOf m) (m .metaspace) ≡ derivedIndex m
   unfolding indexOf derivedIndex kindOf rawPath rawPathBy
   index-of = refl
 
@@ -142,14 +142,11 @@ module _ (m : Model) where
         omega
         (arith, lookup-length (piecesOf m) (m .lookup) (ok .lookupNames) (ok .lookupRises), length-strings (m .pieceBytes) (m .pieceOffsets), ok .sizes .pieceLimit)
 
-    pub left-small : length (m .left) < 4294967296
-    left-small = omega (arith, ok .sizes .rowLimit)
-
   -- What the two rows hold, put together with the answer.
-  pub put-together : (rows index : List ℕ) → checkNumber m ≡ 0 → 1024 ≤ length rows → 4936 ≤ length index → (answer : Answer) (a i : List ℕ)
-      → answer ≡ done 5960 0 0
+  pub put-together : (rows index : List ℕ) → checkNumber m ≡ 0 → 1024 ≤ length rows → 136008 ≤ length index → (answer : Answer) (a i : List ℕ)
+      → answer ≡ done 137032 0 0
       → a ≡ filled (adjacency (strings (m .pieceBytes) (m .pieceOffsets))) rows
-      → i ≡ filled (indexOf (strings (m .pieceBytes) (m .pieceOffsets)) (m .lookup) (m .left) (strings (m .first .bytes) (m .first .offsets)) (strings (m .second .bytes) (m .second .offsets)) (m .stepBytes) (take (m .stepCount) (m .steps)) (m .metaspace)) index
+      → i ≡ filled (indexOf (strings (m .pieceBytes) (m .pieceOffsets)) (m .lookup) (m .left) (m .right) (m .rank) (strings (m .first .bytes) (m .first .offsets)) (strings (m .second .bytes) (m .second .offsets)) (m .stepBytes) (take (m .stepCount) (m .steps)) (m .metaspace)) index
       → _≡_ {A = PrepareOutcome} (record { answer = answer; adjacency = a; index = i }) (prepareOutcome m rows index)
   unfolding derivedAdjacency piecesOf stepsOf contents
   put-together rows index fine h k answer a i e f g = rw (e, f, g, index-of) (sym (prepared m rows index fine h k))

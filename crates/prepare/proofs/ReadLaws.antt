@@ -6,7 +6,7 @@ use native.Mathlib.Omega.{arith}
 use lib.ListN.{length, getD, drop, length-append, List·getD-append}
 use lib.Seq.{slice, take-append-le, take-append-add, take-append-seam, drop-append-seam, getD-at}
 use Rattle.model.specs.Model.{Model, contents, piecesOf}
-use Rattle.index.specs.Index.{firstBytes, markId, bucketShift, buckets}
+use Rattle.index.specs.Index.{firstBytes, markId, bucketShift, rowIndex}
 use Rattle.sections.specs.Beginnings.{beginnings, longestContent}
 use Rattle.sections.proofs.SeekLaws.{length-beginnings}
 use Rattle.units.specs.Kinds.{kindOf, rawPath}
@@ -19,7 +19,7 @@ use Rattle.units.specs.declared.RawPath.the-variants.{Absent, Present}
 use Rattle.prepare.specs.Layout.{kindAt, rawPathAt, crossingCountAt, crossingsAt, markIdAt, shiftAt, firstBytesAt, bucketsAt, firstTokensAt, secondTokensAt, longestContentAt, indexLength, pieceWords, tokenWords, indexRow}
 use Rattle.prepare.specs.Numbers.{kindNumber, kindFrom, rawPathNumber, rawPathFrom}
 use Rattle.prepare.specs.Prepare.{derivedIndex}
-use Rattle.prepare.proofs.LayoutLaws.{length-firstBytes, length-buckets, length-pieceWords, length-index}
+use Rattle.prepare.proofs.LayoutLaws.{length-firstBytes, length-rowIndex, length-pieceWords, length-index}
 use Rattle.prepare.proofs.PrepareLaws.{noted-long}
 
 -- A number gives back what it stands for.
@@ -46,9 +46,9 @@ part-between front part rest from to e f =
 front-part : (front rest : List ℕ) (from to : ℕ) → to ≤ length front → slice from to (front ++ rest) ≡ slice from to front
 front-part front rest from to h = ap (drop from) (take-append-le to front rest h)
 
-module _ (kind raw count : ℕ) (noted : List ℕ) (pieces : List (List ℕ)) (lookup left : List ℕ) (all-noted : length noted ≡ 64) where
+module _ (kind raw count : ℕ) (noted : List ℕ) (pieces : List (List ℕ)) (lookup left right rank : List ℕ) (all-noted : length noted ≡ 64) where
   abbrev row : List ℕ
-  row = pieceWords kind raw count noted pieces lookup left
+  row = pieceWords kind raw count noted pieces lookup left right rank
 
   abbrev shift : ℕ
   shift = bucketShift (length pieces)
@@ -57,7 +57,7 @@ module _ (kind raw count : ℕ) (noted : List ℕ) (pieces : List (List ℕ)) (l
   heads = kind ∷ raw ∷ count ∷ []
 
   abbrev starts : List ℕ
-  starts = firstBytes pieces lookup ++ buckets left shift
+  starts = firstBytes pieces lookup ++ rowIndex left right rank shift
 
   pub noted-read : slice crossingsAt markIdAt row ≡ noted
   unfolding pieceWords
@@ -89,15 +89,15 @@ module _ (kind raw count : ℕ) (noted : List ℕ) (pieces : List (List ℕ)) (l
   pub first-bytes-read : slice firstBytesAt bucketsAt row ≡ firstBytes pieces lookup
   first-bytes-read =
       ap (slice 69 326) row-is
-      ∙ part-between before-starts (firstBytes pieces lookup) (buckets left shift) 69 326 long (omega (arith, length-firstBytes pieces lookup))
+      ∙ part-between before-starts (firstBytes pieces lookup) (rowIndex left right rank shift) 69 326 long (omega (arith, length-firstBytes pieces lookup))
 
-  pub buckets-read : slice bucketsAt firstTokensAt row ≡ buckets left shift
-  buckets-read =
-      ap (slice 326 4423) (row-is ∙ sym (append-assoc before-starts (firstBytes pieces lookup) (buckets left shift)) ∙ ap (λ (l : List ℕ). (before-starts ++ firstBytes pieces lookup) ++ l) (sym (append-nil (buckets left shift))))
-      ∙ part-between (before-starts ++ firstBytes pieces lookup) (buckets left shift) [] 326 4423 (omega (arith, length-append before-starts (firstBytes pieces lookup), long, length-firstBytes pieces lookup)) (omega (arith, length-buckets left shift))
+  pub row-index-read : slice bucketsAt firstTokensAt row ≡ rowIndex left right rank shift
+  row-index-read =
+      ap (slice 326 135495) (row-is ∙ sym (append-assoc before-starts (firstBytes pieces lookup) (rowIndex left right rank shift)) ∙ ap (λ (l : List ℕ). (before-starts ++ firstBytes pieces lookup) ++ l) (sym (append-nil (rowIndex left right rank shift))))
+      ∙ part-between (before-starts ++ firstBytes pieces lookup) (rowIndex left right rank shift) [] 326 135495 (omega (arith, length-append before-starts (firstBytes pieces lookup), long, length-firstBytes pieces lookup)) (omega (arith, length-rowIndex left right rank shift))
 
 -- The words of the token lists stand behind those of the pieces.
-module _ (front : List ℕ) (first second : List (List ℕ)) (front-long : length front ≡ 4423) where
+module _ (front : List ℕ) (first second : List (List ℕ)) (front-long : length front ≡ 135495) where
   abbrev firsts : List ℕ
   firsts = beginnings first 256
 
@@ -106,22 +106,22 @@ module _ (front : List ℕ) (first second : List (List ℕ)) (front-long : lengt
 
   pub first-tokens-read : slice firstTokensAt secondTokensAt (front ++ tokenWords first second) ≡ firsts
   unfolding tokenWords
-  first-tokens-read = part-between front firsts (seconds ++ (longestContent first ∷ [])) 4423 4679 front-long (omega (arith, length-beginnings first 256))
+  first-tokens-read = part-between front firsts (seconds ++ (longestContent first ∷ [])) 135495 135751 front-long (omega (arith, length-beginnings first 256))
 
-  to-second : length (front ++ firsts) ≡ 4679
+  to-second : length (front ++ firsts) ≡ 135751
   to-second = omega (arith, length-append front firsts, length-beginnings first 256)
 
   pub second-tokens-read : slice secondTokensAt longestContentAt (front ++ tokenWords first second) ≡ seconds
   unfolding tokenWords
   second-tokens-read =
-      ap (slice 4679 4935) (sym (append-assoc front firsts (seconds ++ (longestContent first ∷ []))))
-      ∙ part-between (front ++ firsts) seconds (longestContent first ∷ []) 4679 4935 to-second (omega (arith, length-beginnings second 256))
+      ap (slice 135751 136007) (sym (append-assoc front firsts (seconds ++ (longestContent first ∷ []))))
+      ∙ part-between (front ++ firsts) seconds (longestContent first ∷ []) 135751 136007 to-second (omega (arith, length-beginnings second 256))
 
   pub longest-read : getD (front ++ tokenWords first second) longestContentAt 0 ≡ longestContent first
   unfolding tokenWords
   longest-read =
-      ap (λ (l : List ℕ). getD l 4935 0) (sym (append-assoc front firsts (seconds ++ (longestContent first ∷ []))) ∙ sym (append-assoc (front ++ firsts) seconds (longestContent first ∷ [])))
-      ∙ getD-at ((front ++ firsts) ++ seconds) (longestContent first) [] 0 4935 (omega (arith, length-append (front ++ firsts) seconds, to-second, length-beginnings second 256))
+      ap (λ (l : List ℕ). getD l 136007 0) (sym (append-assoc front firsts (seconds ++ (longestContent first ∷ []))) ∙ sym (append-assoc (front ++ firsts) seconds (longestContent first ∷ [])))
+      ∙ getD-at ((front ++ firsts) ++ seconds) (longestContent first) [] 0 136007 (omega (arith, length-append (front ++ firsts) seconds, to-second, length-beginnings second 256))
 
 -- The kind and the raw path of a model, from the index's first words.
 module _ (m : Model) where
@@ -143,7 +143,7 @@ module _ (m : Model) where
 
   -- Its words of the pieces, and behind them those of the tokens.
   abbrev front : List ℕ
-  front = pieceWords (kindNumber (kindOf m)) (rawPathNumber (rawPath m)) (noting (piecesOf m) (kindOf m) .count) (noting (piecesOf m) (kindOf m) .noted) (piecesOf m) (m .lookup) (m .left)
+  front = pieceWords (kindNumber (kindOf m)) (rawPathNumber (rawPath m)) (noting (piecesOf m) (kindOf m) .count) (noting (piecesOf m) (kindOf m) .noted) (piecesOf m) (m .lookup) (m .left) (m .right) (m .rank)
 
   abbrev tokens : List ℕ
   tokens = tokenWords (contents (m .first)) (contents (m .second))
@@ -152,40 +152,40 @@ module _ (m : Model) where
   unfolding derivedIndex indexRow
   index-is = refl
 
-  front-long : length front ≡ 4423
-  front-long = length-pieceWords (kindNumber (kindOf m)) (rawPathNumber (rawPath m)) (noting (piecesOf m) (kindOf m) .count) (noting (piecesOf m) (kindOf m) .noted) (piecesOf m) (m .lookup) (m .left) all-64
+  front-long : length front ≡ 135495
+  front-long = length-pieceWords (kindNumber (kindOf m)) (rawPathNumber (rawPath m)) (noting (piecesOf m) (kindOf m) .count) (noting (piecesOf m) (kindOf m) .noted) (piecesOf m) (m .lookup) (m .left) (m .right) (m .rank) all-64
 
-  part-of-front : (from to : ℕ) → to ≤ 4423 → slice from to (derivedIndex m) ≡ slice from to front
+  part-of-front : (from to : ℕ) → to ≤ 135495 → slice from to (derivedIndex m) ≡ slice from to front
   part-of-front from to h = ap (slice from to) index-is ∙ front-part front tokens from to (omega (arith, front-long))
 
-  word-of-front : (at : ℕ) → at < 4423 → getD (derivedIndex m) at 0 ≡ getD front at 0
+  word-of-front : (at : ℕ) → at < 135495 → getD (derivedIndex m) at 0 ≡ getD front at 0
   word-of-front at h = ap (λ (l : List ℕ). getD l at 0) index-is ∙ List·getD-append front tokens 0 at (omega (arith, front-long))
 
   -- The other parts of its index.
   pub crossings-at : slice crossingsAt markIdAt (derivedIndex m) ≡ noting (piecesOf m) (kindOf m) .noted
-  crossings-at = part-of-front 3 67 (omega arith) ∙ noted-read (kindNumber (kindOf m)) (rawPathNumber (rawPath m)) (noting (piecesOf m) (kindOf m) .count) (noting (piecesOf m) (kindOf m) .noted) (piecesOf m) (m .lookup) (m .left) all-64
+  crossings-at = part-of-front 3 67 (omega arith) ∙ noted-read (kindNumber (kindOf m)) (rawPathNumber (rawPath m)) (noting (piecesOf m) (kindOf m) .count) (noting (piecesOf m) (kindOf m) .noted) (piecesOf m) (m .lookup) (m .left) (m .right) (m .rank) all-64
 
   pub mark-at : getD (derivedIndex m) markIdAt 0 ≡ markId (piecesOf m) (m .lookup)
-  mark-at = word-of-front 67 (omega arith) ∙ mark-read (kindNumber (kindOf m)) (rawPathNumber (rawPath m)) (noting (piecesOf m) (kindOf m) .count) (noting (piecesOf m) (kindOf m) .noted) (piecesOf m) (m .lookup) (m .left) all-64
+  mark-at = word-of-front 67 (omega arith) ∙ mark-read (kindNumber (kindOf m)) (rawPathNumber (rawPath m)) (noting (piecesOf m) (kindOf m) .count) (noting (piecesOf m) (kindOf m) .noted) (piecesOf m) (m .lookup) (m .left) (m .right) (m .rank) all-64
 
   pub shift-at : getD (derivedIndex m) shiftAt 0 ≡ bucketShift (length (piecesOf m))
-  shift-at = word-of-front 68 (omega arith) ∙ shift-read (kindNumber (kindOf m)) (rawPathNumber (rawPath m)) (noting (piecesOf m) (kindOf m) .count) (noting (piecesOf m) (kindOf m) .noted) (piecesOf m) (m .lookup) (m .left) all-64
+  shift-at = word-of-front 68 (omega arith) ∙ shift-read (kindNumber (kindOf m)) (rawPathNumber (rawPath m)) (noting (piecesOf m) (kindOf m) .count) (noting (piecesOf m) (kindOf m) .noted) (piecesOf m) (m .lookup) (m .left) (m .right) (m .rank) all-64
 
   pub first-bytes-at : slice firstBytesAt bucketsAt (derivedIndex m) ≡ firstBytes (piecesOf m) (m .lookup)
-  first-bytes-at = part-of-front 69 326 (omega arith) ∙ first-bytes-read (kindNumber (kindOf m)) (rawPathNumber (rawPath m)) (noting (piecesOf m) (kindOf m) .count) (noting (piecesOf m) (kindOf m) .noted) (piecesOf m) (m .lookup) (m .left) all-64
+  first-bytes-at = part-of-front 69 326 (omega arith) ∙ first-bytes-read (kindNumber (kindOf m)) (rawPathNumber (rawPath m)) (noting (piecesOf m) (kindOf m) .count) (noting (piecesOf m) (kindOf m) .noted) (piecesOf m) (m .lookup) (m .left) (m .right) (m .rank) all-64
 
-  pub buckets-at : slice bucketsAt firstTokensAt (derivedIndex m) ≡ buckets (m .left) (bucketShift (length (piecesOf m)))
-  buckets-at = part-of-front 326 4423 (omega arith) ∙ buckets-read (kindNumber (kindOf m)) (rawPathNumber (rawPath m)) (noting (piecesOf m) (kindOf m) .count) (noting (piecesOf m) (kindOf m) .noted) (piecesOf m) (m .lookup) (m .left) all-64
+  pub row-index-at : slice bucketsAt firstTokensAt (derivedIndex m) ≡ rowIndex (m .left) (m .right) (m .rank) (bucketShift (length (piecesOf m)))
+  row-index-at = part-of-front 326 135495 (omega arith) ∙ row-index-read (kindNumber (kindOf m)) (rawPathNumber (rawPath m)) (noting (piecesOf m) (kindOf m) .count) (noting (piecesOf m) (kindOf m) .noted) (piecesOf m) (m .lookup) (m .left) (m .right) (m .rank) all-64
 
   pub first-tokens-at : slice firstTokensAt secondTokensAt (derivedIndex m) ≡ beginnings (contents (m .first)) 256
-  first-tokens-at = ap (slice 4423 4679) index-is ∙ first-tokens-read front (contents (m .first)) (contents (m .second)) front-long
+  first-tokens-at = ap (slice 135495 135751) index-is ∙ first-tokens-read front (contents (m .first)) (contents (m .second)) front-long
 
   pub second-tokens-at : slice secondTokensAt longestContentAt (derivedIndex m) ≡ beginnings (contents (m .second)) 256
-  second-tokens-at = ap (slice 4679 4935) index-is ∙ second-tokens-read front (contents (m .first)) (contents (m .second)) front-long
+  second-tokens-at = ap (slice 135751 136007) index-is ∙ second-tokens-read front (contents (m .first)) (contents (m .second)) front-long
 
   pub longest-at : getD (derivedIndex m) longestContentAt 0 ≡ longestContent (contents (m .first))
-  longest-at = ap (λ (l : List ℕ). getD l 4935 0) index-is ∙ longest-read front (contents (m .first)) (contents (m .second)) front-long
+  longest-at = ap (λ (l : List ℕ). getD l 136007 0) index-is ∙ longest-read front (contents (m .first)) (contents (m .second)) front-long
 
   pub index-long : length (derivedIndex m) ≡ indexLength
   unfolding derivedIndex
-  index-long = length-index (kindNumber (kindOf m)) (rawPathNumber (rawPath m)) (noting (piecesOf m) (kindOf m) .count) (noting (piecesOf m) (kindOf m) .noted) (piecesOf m) (m .lookup) (m .left) (contents (m .first)) (contents (m .second)) all-64
+  index-long = length-index (kindNumber (kindOf m)) (rawPathNumber (rawPath m)) (noting (piecesOf m) (kindOf m) .count) (noting (piecesOf m) (kindOf m) .noted) (piecesOf m) (m .lookup) (m .left) (m .right) (m .rank) (contents (m .first)) (contents (m .second)) all-64

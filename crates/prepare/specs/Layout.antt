@@ -2,7 +2,7 @@
 use Prim.Native.Nat.{ℕ}
 use mathlib.Core.List.{List, [], _∷_, _++_}
 use lib.ListN.{length}
-use Rattle.index.specs.Index.{firstBytes, markId, bucketShift, buckets}
+use Rattle.index.specs.Index.{firstBytes, markId, bucketShift, rowIndex}
 use Rattle.sections.specs.Beginnings.{beginnings, longestContent}
 
 -- The lengths of the two rows.
@@ -10,7 +10,7 @@ abbrev pub adjacencyLength : ℕ
 adjacencyLength = 1024
 
 abbrev pub indexLength : ℕ
-indexLength = 4936
+indexLength = 136008
 
 -- Where the parts of the index begin.
 abbrev pub kindAt : ℕ
@@ -37,27 +37,30 @@ firstBytesAt = 69
 abbrev pub bucketsAt : ℕ
 bucketsAt = 326
 
+abbrev pub pairsAt : ℕ
+pairsAt = 4423
+
 abbrev pub firstTokensAt : ℕ
-firstTokensAt = 4423
+firstTokensAt = 135495
 
 abbrev pub secondTokensAt : ℕ
-secondTokensAt = 4679
+secondTokensAt = 135751
 
 abbrev pub longestContentAt : ℕ
-longestContentAt = 4935
+longestContentAt = 136007
 
 -- The kind, the raw path, how many crossings are noted and 64 words of them, the mark's id, the shift of the buckets, where first bytes
--- begin, and where buckets do.
-unfoldable pub pieceWords : ℕ → ℕ → ℕ → List ℕ → List (List ℕ) → List ℕ → List ℕ → List ℕ
-pieceWords kind rawPath count noted pieces lookup left =
+-- begin, where buckets do, and the pair table.
+unfoldable pub pieceWords : ℕ → ℕ → ℕ → List ℕ → List (List ℕ) → List ℕ → List ℕ → List ℕ → List ℕ → List ℕ
+pieceWords kind rawPath count noted pieces lookup left right rank =
     let shift = bucketShift (length pieces) in
-    kind ∷ rawPath ∷ count ∷ noted ++ (markId pieces lookup ∷ shift ∷ firstBytes pieces lookup ++ buckets left shift)
+    kind ∷ rawPath ∷ count ∷ noted ++ (markId pieces lookup ∷ shift ∷ firstBytes pieces lookup ++ rowIndex left right rank shift)
 
 -- The bytes that contents of the two token lists begin with, and the length of the longest of the first.
 unfoldable pub tokenWords : List (List ℕ) → List (List ℕ) → List ℕ
 tokenWords first second = beginnings first 256 ++ (beginnings second 256 ++ (longestContent first ∷ []))
 
 -- The index.
-unfoldable pub indexRow : ℕ → ℕ → ℕ → List ℕ → List (List ℕ) → List ℕ → List ℕ → List (List ℕ) → List (List ℕ) → List ℕ
-indexRow kind rawPath count noted pieces lookup left first second =
-    pieceWords kind rawPath count noted pieces lookup left ++ tokenWords first second
+unfoldable pub indexRow : ℕ → ℕ → ℕ → List ℕ → List (List ℕ) → List ℕ → List ℕ → List ℕ → List ℕ → List (List ℕ) → List (List ℕ) → List ℕ
+indexRow kind rawPath count noted pieces lookup left right rank first second =
+    pieceWords kind rawPath count noted pieces lookup left right rank ++ tokenWords first second

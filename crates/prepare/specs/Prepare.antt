@@ -21,7 +21,7 @@ derivedAdjacency m = adjacency (piecesOf m)
 unfoldable pub derivedIndex : Model → List ℕ
 derivedIndex m =
     let noted = noting (piecesOf m) (kindOf m) in
-    indexRow (kindNumber (kindOf m)) (rawPathNumber (rawPath m)) (noted .count) (noted .noted) (piecesOf m) (m .lookup) (m .left)
+    indexRow (kindNumber (kindOf m)) (rawPathNumber (rawPath m)) (noted .count) (noted .noted) (piecesOf m) (m .lookup) (m .left) (m .right) (m .rank)
     (contents (m .first)) (contents (m .second))
 
 -- What prepare leaves: the answer and the two rows.

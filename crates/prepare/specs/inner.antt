@@ -1,3 +1,4 @@
 -- Definitions that only the contracts of inner functions need.
 pub mod Derive
+pub mod Pairs
 pub mod Walk

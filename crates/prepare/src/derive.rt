@@ -2,10 +2,10 @@
 use crate::fill::fill_index;
 use crate::numbers::kind_number;
 use crate::numbers::raw_path_number;
-use crate::rows::clear_from;
 use crate::rows::put_rows;
 use model::Metaspace;
 use model::Step;
+use model::clear::clear_words;
 use model::tables::string_count;
 use units::adjacency::split_safe;
 use units::crossings::word_split;
@@ -37,6 +37,8 @@ pub fn derive_index(
     piece_offsets: &[u32],
     lookup: &[u32],
     left: &[u32],
+    right: &[u32],
+    rank: &[u32],
     first_bytes: &[u8],
     first_offsets: &[u32],
     second_bytes: &[u8],
@@ -49,9 +51,9 @@ pub fn derive_index(
 )
     requires { ⌜ lookupAscends (strings (now «piece_bytes») (now «piece_offsets»)) (now lookup) ≡ true ⌝ }
     requires { ⌜ length (now lookup) < 4294967296 ⌝ }
-    requires { ⌜ length (now left) < 4294967296 ⌝ }
+    requires { ⌜ length (now left) ≤ 1048576 ⌝ }
     requires { ⌜ indexLength ≤ length (now out) ⌝ }
-    ensures { λ _. ⌜ now (out .exit) ≡ filled (indexOf (strings (now («piece_bytes» .entry)) (now («piece_offsets» .entry))) (now (lookup .entry)) (now (left .entry)) (strings (now («first_bytes» .entry)) (now («first_offsets» .entry))) (strings (now («second_bytes» .entry)) (now («second_offsets» .entry))) (now («step_bytes» .entry)) (take «step_count» steps) metaspace) (now (out .entry)) ⌝ }
+    ensures { λ _. ⌜ now (out .exit) ≡ filled (indexOf (strings (now («piece_bytes» .entry)) (now («piece_offsets» .entry))) (now (lookup .entry)) (now (left .entry)) (now (right .entry)) (now (rank .entry)) (strings (now («first_bytes» .entry)) (now («first_offsets» .entry))) (strings (now («second_bytes» .entry)) (now («second_offsets» .entry))) (now («step_bytes» .entry)) (take «step_count» steps) metaspace) (now (out .entry)) ⌝ }
 {
     let mut noted = [0u32; 64];
     let split = word_split(piece_bytes, piece_offsets, metaspace, &mut noted);
@@ -67,11 +69,13 @@ pub fn derive_index(
         piece_offsets,
         lookup,
         left,
+        right,
+        rank,
         first_bytes,
         first_offsets,
         second_bytes,
         second_offsets,
         out,
     );
-    clear_from(out, crate::INDEX_LEN);
+    clear_words(out, crate::INDEX_LEN);
 }

@@ -1,4 +1,5 @@
 // The parts of the index, each into its place.
+use crate::pairs::fill_pairs;
 use crate::walk::below_from;
 use crate::walk::first_below_from;
 use model::Found;
@@ -107,14 +108,16 @@ fn fill_pieces(
     piece_offsets: &[u32],
     lookup: &[u32],
     left: &[u32],
+    right: &[u32],
+    rank: &[u32],
     words: &mut [u32],
 )
     requires { ⌜ lookupAscends (strings (now «piece_bytes») (now «piece_offsets»)) (now lookup) ≡ true ⌝ }
     requires { ⌜ length (now lookup) < 4294967296 ⌝ }
-    requires { ⌜ length (now left) < 4294967296 ⌝ }
+    requires { ⌜ length (now left) ≤ 1048576 ⌝ }
     requires { ⌜ length (now noted) ≡ 64 ⌝ }
     requires { ⌜ firstTokensAt ≤ length (now words) ⌝ }
-    ensures { λ _. ⌜ now (words .exit) ≡ pieceWords kind «raw_path» count (now (noted .entry)) (strings (now («piece_bytes» .entry)) (now («piece_offsets» .entry))) (now (lookup .entry)) (now (left .entry)) ++ drop firstTokensAt (now (words .entry)) ⌝ }
+    ensures { λ _. ⌜ now (words .exit) ≡ pieceWords kind «raw_path» count (now (noted .entry)) (strings (now («piece_bytes» .entry)) (now («piece_offsets» .entry))) (now (lookup .entry)) (now (left .entry)) (now (right .entry)) (now (rank .entry)) ++ drop firstTokensAt (now (words .entry)) ⌝ }
 {
     let shift = bucket_shift(string_count(piece_offsets));
     let mark = mark_id(piece_bytes, piece_offsets, lookup);
@@ -126,6 +129,12 @@ fn fill_pieces(
     words[crate::SHIFT_AT] = shift;
     fill_first_bytes(piece_bytes, piece_offsets, lookup, words);
     fill_buckets(left, shift, words);
+    fill_pairs(
+        left,
+        right,
+        rank,
+        &mut words[crate::PAIRS_AT..crate::FIRST_TOKENS_AT],
+    );
 }
 
 // What is derived of the two token lists.
@@ -163,6 +172,8 @@ pub fn fill_index(
     piece_offsets: &[u32],
     lookup: &[u32],
     left: &[u32],
+    right: &[u32],
+    rank: &[u32],
     first: &[u8],
     first_offsets: &[u32],
     second: &[u8],
@@ -171,10 +182,10 @@ pub fn fill_index(
 )
     requires { ⌜ lookupAscends (strings (now «piece_bytes») (now «piece_offsets»)) (now lookup) ≡ true ⌝ }
     requires { ⌜ length (now lookup) < 4294967296 ⌝ }
-    requires { ⌜ length (now left) < 4294967296 ⌝ }
+    requires { ⌜ length (now left) ≤ 1048576 ⌝ }
     requires { ⌜ length (now noted) ≡ 64 ⌝ }
     requires { ⌜ indexLength ≤ length (now words) ⌝ }
-    ensures { λ _. ⌜ now (words .exit) ≡ indexRow kind «raw_path» count (now (noted .entry)) (strings (now («piece_bytes» .entry)) (now («piece_offsets» .entry))) (now (lookup .entry)) (now (left .entry)) (strings (now (first .entry)) (now («first_offsets» .entry))) (strings (now (second .entry)) (now («second_offsets» .entry))) ++ drop indexLength (now (words .entry)) ⌝ }
+    ensures { λ _. ⌜ now (words .exit) ≡ indexRow kind «raw_path» count (now (noted .entry)) (strings (now («piece_bytes» .entry)) (now («piece_offsets» .entry))) (now (lookup .entry)) (now (left .entry)) (now (right .entry)) (now (rank .entry)) (strings (now (first .entry)) (now («first_offsets» .entry))) (strings (now (second .entry)) (now («second_offsets» .entry))) ++ drop indexLength (now (words .entry)) ⌝ }
 {
     fill_pieces(
         kind,
@@ -185,6 +196,8 @@ pub fn fill_index(
         piece_offsets,
         lookup,
         left,
+        right,
+        rank,
         words,
     );
     fill_tokens(first, first_offsets, second, second_offsets, words);

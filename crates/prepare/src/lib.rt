@@ -3,6 +3,7 @@
 mod derive;
 mod fill;
 pub mod numbers;
+mod pairs;
 pub mod read;
 mod rows;
 mod walk;
@@ -20,7 +21,7 @@ ghost use Rattle.prepare.specs.Prepare.{PrepareOutcome, prepareOutcome};
 // The lengths of the two rows.
 pub const ADJACENCY_LEN: usize = 1024;
 
-pub const INDEX_LEN: usize = 4936;
+pub const INDEX_LEN: usize = 136008;
 
 // Where the parts of the index begin.
 pub const KIND_AT: usize = 0;
@@ -39,11 +40,13 @@ pub const FIRST_BYTES_AT: usize = 69;
 
 pub const BUCKETS_AT: usize = 326;
 
-pub const FIRST_TOKENS_AT: usize = 4423;
+pub const PAIRS_AT: usize = 4423;
 
-pub const SECOND_TOKENS_AT: usize = 4679;
+pub const FIRST_TOKENS_AT: usize = 135495;
 
-pub const LONGEST_AT: usize = 4935;
+pub const SECOND_TOKENS_AT: usize = 135751;
+
+pub const LONGEST_AT: usize = 136007;
 
 // `prepare` on a model that `model::check` accepts.
 pub fn prepare_checked(
@@ -87,6 +90,8 @@ pub fn prepare_checked(
         piece_offsets,
         lookup,
         left,
+        right,
+        rank,
         first_bytes,
         first_offsets,
         second_bytes,

@@ -1,9 +1,8 @@
 // Rows of words put into the buffers that are lent.
 ghost use mathlib.Core.Path.{_≡_};
-ghost use mathlib.Core.List.{_++_};
-ghost use Prim.Native.Nat.{_-_, _≤_};
-ghost use lib.ListN.{length, getD, take};
-ghost use Rattle.model.specs.Answers.{zeros, filled};
+ghost use Prim.Native.Nat.{_≤_};
+ghost use lib.ListN.{length, getD};
+ghost use Rattle.model.specs.Answers.{filled};
 
 // The word at `i`, 0 past the end.
 fn word_at(words: &[u64], i: usize) -> u64
@@ -20,18 +19,6 @@ pub fn put_rows(rows: &[u64], out: &mut [u64])
     let mut i = 0;
     while i < out.len() {
         out[i] = word_at(rows, i);
-        i += 1;
-    }
-}
-
-// Zeros from `start` to the buffer's end.
-pub fn clear_from(out: &mut [u32], start: usize)
-    requires { ⌜ start ≤ length (now out) ⌝ }
-    ensures { λ _. ⌜ now (out .exit) ≡ take start (now (out .entry)) ++ zeros (length (now (out .entry)) - start) ⌝ }
-{
-    let mut i = start;
-    while i < out.len() {
-        out[i] = 0;
         i += 1;
     }
 }

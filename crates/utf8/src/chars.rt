@@ -8,7 +8,7 @@ ghost use Rattle.utf8.specs.Lists.{within};
 ghost use Rattle.utf8.specs.Chars.{tail, hasForm, charWidth, valid, longestValidPrefix, codePoint};
 ghost use Rattle.utf8.specs.inner.Ends.{lastWidth};
 
-fn is_within(b: u8, low: u8, high: u8) -> bool
+pub fn is_within(b: u8, low: u8, high: u8) -> bool
     ensures { λ r. ⌜ r ≡ within (low, high) b ⌝ }
 {
     if b < low {

@@ -12,6 +12,7 @@ ghost use Rattle.normalise.specs.Normalise.{normaliseOutcome};
 ghost use Rattle.prepare.specs.Prepare.{derivedAdjacency, derivedIndex, PrepareOutcome, prepareOutcome};
 ghost use Rattle.encode.specs.Encode.{encodeOutcome};
 ghost use Rattle.fragments.specs.Fragments.{fragmentsOutcome};
+ghost use Rattle.decode.specs.Decode.{decodeOutcome};
 ghost use Rattle.varitmol.specs.Numbers.{stepsFrom, metaspaceFrom, wrongNumbers, answered, answeredResult, answeredScratch, answeredPrepare};
 
 mod numbers;
@@ -547,6 +548,131 @@ pub extern "C" fn varitmol_fragments_prepared(
         index,
         text,
         target,
+        out,
+    )
+}
+
+// `decode::decode`.
+#[no_mangle]
+pub extern "C" fn varitmol_decode(
+    piece_bytes: &[u8],
+    piece_offsets: &[u32],
+    lookup: &[u32],
+    fallback: &[u32],
+    left: &[u32],
+    right: &[u32],
+    result: &[u32],
+    rank: &[u32],
+    first_bytes: &[u8],
+    first_offsets: &[u32],
+    first_ids: &[u32],
+    first_lstrip: &[bool],
+    first_rstrip: &[bool],
+    second_bytes: &[u8],
+    second_offsets: &[u32],
+    second_ids: &[u32],
+    second_lstrip: &[bool],
+    second_rstrip: &[bool],
+    step_bytes: &[u8],
+    step_kinds: &[u8],
+    step_spans: &[u32],
+    metaspace: u8,
+    split: u8,
+    ids: &[u32],
+    out: &mut [u8],
+) -> Answer
+    ensures { λ r. ⌜ _≡_ {A = Outcome} (record { answer = r; out = now (out .exit) }) (answeredResult (wrongNumbers (now («step_kinds» .entry)) (now («step_spans» .entry)) metaspace split) (now (out .entry)) (decodeOutcome (modelOf (now («piece_bytes» .entry)) (now («piece_offsets» .entry)) (now (lookup .entry)) (now (fallback .entry)) (now (left .entry)) (now (right .entry)) (now (result .entry)) (now (rank .entry)) (tokenList (now («first_bytes» .entry)) (now («first_offsets» .entry)) (now («first_ids» .entry)) (now («first_lstrip» .entry)) (now («first_rstrip» .entry))) (tokenList (now («second_bytes» .entry)) (now («second_offsets» .entry)) (now («second_ids» .entry)) (now («second_lstrip» .entry)) (now («second_rstrip» .entry))) (now («step_bytes» .entry)) (stepsFrom (now («step_kinds» .entry)) (now («step_spans» .entry))) (length (now («step_kinds» .entry))) (metaspaceFrom metaspace split)) (now (ids .entry)) (now (out .entry)))) ⌝ }
+{
+    if wrong_numbers(step_kinds, step_spans, metaspace, split) {
+        return Answer::refused(model::WRONG_SIZE, 0);
+    }
+    decode::decode(
+        piece_bytes,
+        piece_offsets,
+        lookup,
+        fallback,
+        left,
+        right,
+        result,
+        rank,
+        first_bytes,
+        first_offsets,
+        first_ids,
+        first_lstrip,
+        first_rstrip,
+        second_bytes,
+        second_offsets,
+        second_ids,
+        second_lstrip,
+        second_rstrip,
+        step_bytes,
+        steps_from(step_kinds, step_spans),
+        step_kinds.len(),
+        metaspace_from(metaspace, split),
+        ids,
+        out,
+    )
+}
+
+// `decode::decode_checked`: whoever calls it answers for the model's check.
+#[no_mangle]
+pub extern "C" fn varitmol_decode_checked(
+    piece_bytes: &[u8],
+    piece_offsets: &[u32],
+    lookup: &[u32],
+    fallback: &[u32],
+    left: &[u32],
+    right: &[u32],
+    result: &[u32],
+    rank: &[u32],
+    first_bytes: &[u8],
+    first_offsets: &[u32],
+    first_ids: &[u32],
+    first_lstrip: &[bool],
+    first_rstrip: &[bool],
+    second_bytes: &[u8],
+    second_offsets: &[u32],
+    second_ids: &[u32],
+    second_lstrip: &[bool],
+    second_rstrip: &[bool],
+    step_bytes: &[u8],
+    step_kinds: &[u8],
+    step_spans: &[u32],
+    metaspace: u8,
+    split: u8,
+    ids: &[u32],
+    out: &mut [u8],
+) -> Answer
+    requires { ⌜ checkNumber (modelOf (now «piece_bytes») (now «piece_offsets») (now lookup) (now fallback) (now left) (now right) (now result) (now rank) (tokenList (now «first_bytes») (now «first_offsets») (now «first_ids») (now «first_lstrip») (now «first_rstrip»)) (tokenList (now «second_bytes») (now «second_offsets») (now «second_ids») (now «second_lstrip») (now «second_rstrip»)) (now «step_bytes») (stepsFrom (now «step_kinds») (now «step_spans»)) (length (now «step_kinds»)) (metaspaceFrom metaspace split)) ≡ 0 ⌝ }
+    ensures { λ r. ⌜ _≡_ {A = Outcome} (record { answer = r; out = now (out .exit) }) (answeredResult (wrongNumbers (now («step_kinds» .entry)) (now («step_spans» .entry)) metaspace split) (now (out .entry)) (decodeOutcome (modelOf (now («piece_bytes» .entry)) (now («piece_offsets» .entry)) (now (lookup .entry)) (now (fallback .entry)) (now (left .entry)) (now (right .entry)) (now (result .entry)) (now (rank .entry)) (tokenList (now («first_bytes» .entry)) (now («first_offsets» .entry)) (now («first_ids» .entry)) (now («first_lstrip» .entry)) (now («first_rstrip» .entry))) (tokenList (now («second_bytes» .entry)) (now («second_offsets» .entry)) (now («second_ids» .entry)) (now («second_lstrip» .entry)) (now («second_rstrip» .entry))) (now («step_bytes» .entry)) (stepsFrom (now («step_kinds» .entry)) (now («step_spans» .entry))) (length (now («step_kinds» .entry))) (metaspaceFrom metaspace split)) (now (ids .entry)) (now (out .entry)))) ⌝ }
+{
+    if wrong_numbers(step_kinds, step_spans, metaspace, split) {
+        return Answer::refused(model::WRONG_SIZE, 0);
+    }
+    decode::decode_checked(
+        piece_bytes,
+        piece_offsets,
+        lookup,
+        fallback,
+        left,
+        right,
+        result,
+        rank,
+        first_bytes,
+        first_offsets,
+        first_ids,
+        first_lstrip,
+        first_rstrip,
+        second_bytes,
+        second_offsets,
+        second_ids,
+        second_lstrip,
+        second_rstrip,
+        step_bytes,
+        steps_from(step_kinds, step_spans),
+        step_kinds.len(),
+        metaspace_from(metaspace, split),
+        ids,
         out,
     )
 }

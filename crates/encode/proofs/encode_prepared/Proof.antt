@@ -175,13 +175,17 @@ returns-4 c =
     raw-text (lent (start k)) _ (p .valid-prefix .ensures) (e .if1 .left) (start k .pre .0) (v .if2 .left) _ (sym (pathAt r) ∙ n .path .given .1) (text-bytes k) (w .encode-raw .ensures ∙ raw-lent (lent s .model) (s .pre .1 .0) (s .pre .1 .1) _ _) (a .clear .ensures) (b .clear2 .ensures)
 
 same-length-4 : tie.Need-same-length-4
-same-length-4 c = search needs
+same-length-4 c = let a = c .before .before .before .before .before .before in a .before .before .before .out2 .given
 
 same-length-5 : tie.Need-same-length-5
-same-length-5 c = search needs
+same-length-5 c =
+    let a = c .before .before .before .before .before .before in
+    c .before .before .before .before .before .scratch-a3 .given ∙ a .before .before .before .before .before .before .before .scratch-a2 .given
 
 same-length-6 : tie.Need-same-length-6
-same-length-6 c = search needs
+same-length-6 c =
+    let a = c .before .before .before .before .before .before in
+    c .before .scratch-b3 .given ∙ a .before .before .before .before .before .scratch-b2 .given
 
 returns-5 : tie.Need-returns-5
 unfolding stepsOf

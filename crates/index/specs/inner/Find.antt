@@ -1,15 +1,17 @@
 -- Where searches that begin from derived tables end, on any tables.
-use Prim.Native.Nat.{ℕ, _+_, _/_, _^_, min}
-use mathlib.Core.Bool.{cond}
+use Prim.Native.Nat.{ℕ, _+_, _-_, _/_, _%_, _^_, min}
+use mathlib.Core.Bool.{Bool, cond, _&&_}
 use mathlib.Core.List.{List}
 use mathlib.Core.Option.{Option, none, some}
-use lib.Dec.{eqb}
+use lib.Dec.{eqb, ltb}
 use lib.ListN.{length, getD}
 use Rattle.utf8.specs.Lists.{same}
 use Rattle.model.specs.Model.{noId}
 use Rattle.model.specs.Mark.{mark}
 use Rattle.model.specs.inner.Search.{searched, pieceOrder, rowOrder, idAt}
 use Rattle.model.specs.declared.Found.{Found}
+use Rattle.model.specs.declared.Found.the-variants.{At, Nothing}
+use Rattle.index.specs.Index.{bucketWords, pairSlot, shared}
 
 -- The id that a number gives, where it does not stand for none.
 unfoldable pub idOf : ℕ → Option ℕ
@@ -28,7 +30,30 @@ idFrom pieces lookup firstBytes markId key =
     cond (same key mark) (idOf markId)
     (idAt lookup (searched (pieceOrder pieces lookup key) (keyStart firstBytes key) (min (keyEnd firstBytes key) (length lookup))))
 
--- The place of a pair's row, by where the bucket of its left id begins and ends.
+-- The place of a pair's row, by where the bucket of its left id begins and ends. A left id past the buckets has no row.
+unfoldable pub rowBetween : List ℕ → List ℕ → List ℕ → ℕ → ℕ → ℕ → Found
+rowBetween left right rowIndex shift l r =
+    let b = l / 2 ^ shift in
+    cond (ltb (b + 1) bucketWords) (searched (rowOrder left right l r) (getD rowIndex b 0) (min (getD rowIndex (b + 1) 0) (length left))) Nothing
+
+-- The word of a pair, behind the buckets.
+unfoldable pub pairWord : List ℕ → ℕ → ℕ → ℕ
+pairWord rowIndex l r = getD rowIndex (bucketWords + pairSlot l r) 0
+
+-- The row that a word names.
+abbrev pub namedRow : ℕ → ℕ
+namedRow word = word % shared - 1
+
+-- Whether there is a row at a place, and it is the pair's.
+abbrev pub rowHas : List ℕ → List ℕ → ℕ → ℕ → ℕ → Bool
+rowHas left right row l r = ltb row (length left) && (eqb (getD left row 0) l && eqb (getD right row 0) r)
+
+-- The place of a pair's row by the pair's word: that of the row which it names, where this is the pair's; by the search, where rows share the slot.
+abbrev pub rowBy : ℕ → List ℕ → List ℕ → List ℕ → ℕ → ℕ → ℕ → Found
+rowBy word left right rowIndex shift l r =
+    cond (eqb word 0) Nothing
+    (cond (rowHas left right (namedRow word) l r) (At (namedRow word))
+    (cond (ltb word shared) Nothing (rowBetween left right rowIndex shift l r)))
+
 unfoldable pub rowFrom : List ℕ → List ℕ → List ℕ → ℕ → ℕ → ℕ → Found
-rowFrom left right buckets shift l r =
-    let b = l / 2 ^ shift in searched (rowOrder left right l r) (getD buckets b 0) (min (getD buckets (b + 1) 0) (length left))
+rowFrom left right rowIndex shift l r = rowBy (pairWord rowIndex l r) left right rowIndex shift l r

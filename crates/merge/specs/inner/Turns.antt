@@ -1,9 +1,7 @@
 -- The merge in place on the front of a buffer, turn by turn, with rows as a search finds them.
 use Prim.Native.Nat.{ℕ, _+_, _-_}
-use mathlib.Core.Bool.{cond}
 use mathlib.Core.List.{List, [], _∷_, _++_}
 use mathlib.Core.Option.{Option, none, some}
-use lib.Dec.{leb}
 use lib.ListN.{length, take, drop}
 use Rattle.model.specs.Model.{Row, rowsOf}
 use Rattle.model.specs.inner.Search.{rowFound}
@@ -15,23 +13,12 @@ use Rattle.merge.specs.declared.Turn.the-variants.{Merge, Stop}
 
 -- The row at which a search for a pair ends, on any tables.
 unfoldable pub rowIn : List ℕ → List ℕ → List ℕ → List ℕ → List ℕ → ℕ → ℕ → ℕ → Option Row
-rowIn left right result rank buckets shift l r = rowFound (rowsOf left right result rank) (rowFrom left right buckets shift l r)
+rowIn left right result rank rowIndex shift l r = rowFound (rowsOf left right result rank) (rowFrom left right rowIndex shift l r)
 
--- What a turn does with the pair at a place, by the pair's row.
-abbrev pub turnAt : ℕ → Option Row → Turn
-turnAt place none = Stop
-turnAt place (some row) = Merge place (row .result) (row .rank)
-
+-- What a turn does, by the next merge.
 abbrev pub turnOf : Option Candidate → Turn
 turnOf none = Stop
 turnOf (some c) = Merge (c .place) (c .row .result) (c .row .rank)
-
--- The one of lower rank, of equals the first.
-abbrev pub lowerTurn : Turn → Turn → Turn
-lowerTurn Stop t = t
-lowerTurn (Merge place result rank) Stop = Merge place result rank
-lowerTurn (Merge place result rank) (Merge place' result' rank') =
-    cond (leb rank rank') (Merge place result rank) (Merge place' result' rank')
 
 -- A result in the place of a pair, and a zero in the cell that comes free.
 unfoldable pub joinedAt : ℕ → ℕ → List ℕ → List ℕ

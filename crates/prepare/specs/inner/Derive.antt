@@ -9,8 +9,8 @@ use Rattle.units.specs.Derived.{noting, rawPathBy}
 use Rattle.prepare.specs.Layout.{indexRow}
 use Rattle.prepare.specs.Numbers.{kindNumber, rawPathNumber}
 
-unfoldable pub indexOf : List (List ℕ) → List ℕ → List ℕ → List (List ℕ) → List (List ℕ) → List ℕ → List Step → Metaspace → List ℕ
-indexOf pieces lookup left first second stepBytes steps metaspace =
+unfoldable pub indexOf : List (List ℕ) → List ℕ → List ℕ → List ℕ → List ℕ → List (List ℕ) → List (List ℕ) → List ℕ → List Step → Metaspace → List ℕ
+indexOf pieces lookup left right rank first second stepBytes steps metaspace =
     let kind = wordSplit (crossings pieces) metaspace in
     let noted = noting pieces kind in
-    indexRow (kindNumber kind) (rawPathNumber (rawPathBy kind (isEmpty second) stepBytes steps metaspace)) (noted .count) (noted .noted) pieces lookup left first second
+    indexRow (kindNumber kind) (rawPathNumber (rawPathBy kind (isEmpty second) stepBytes steps metaspace)) (noted .count) (noted .noted) pieces lookup left right rank first second

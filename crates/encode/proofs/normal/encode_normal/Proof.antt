@@ -89,11 +89,8 @@ roomyAt w = w .before .before .before .before
 abbrev writtenAt : tie.After-slice-known8 → tie.After-write-normal
 writtenAt k = k .before .before .before .before .before .before
 
-clear-from-requires : tie.Need-clear-from-requires
-clear-from-requires c κs =
-    let w = writtenAt (c .before) in
-    let p = countedAt (roomyAt w .before .before .before .before) in
-    written-inside (tablesOf (start p)) (partsOf (start p)) (start p .args .out .now) (w .write-normal .ensures)
+clear-words-requires : tie.Need-clear-words-requires
+clear-words-requires c κs = search needs
 
 done-requires : tie.Need-done-requires
 done-requires c κs = search needs
@@ -120,7 +117,7 @@ same-length-7 c =
     let f = c .before .before .before in
     let w = writtenAt (f .before .before) in
     let p = countedAt (roomyAt w .before .before .before .before) in
-    cleared-long (tablesOf (start p)) (partsOf (start p)) (start p .args .out .now) (w .write-normal .ensures) (f .clear-from .ensures)
+    cleared-long (tablesOf (start p)) (partsOf (start p)) (start p .args .out .now) (w .write-normal .ensures) (f .clear-words .ensures)
 
 returns-3 : tie.Need-returns-3
 returns-3 c =
@@ -129,7 +126,7 @@ returns-3 c =
     let i = roomyAt w in
     let n = i .before .before in
     let p = countedAt (n .before .before) in
-    normal-written (tablesOf (start p)) (normalOf (start p)) (tokensOf (start p)) (start p .args .text .now) (roomOf (start p)) (start p .args .out .now) (p .count-normal .ensures) (n .count .given .1) (w .write-normal .ensures) (f .clear-from .ensures) (c .done .ensures) (i .if1 .left)
+    normal-written (tablesOf (start p)) (normalOf (start p)) (tokensOf (start p)) (start p .args .text .now) (roomOf (start p)) (start p .args .out .now) (p .count-normal .ensures) (n .count .given .1) (w .write-normal .ensures) (f .clear-words .ensures) (c .done .ensures) (i .if1 .left)
 
 pub encode-normal-spec : {M : Type 1} → statement M
 encode-normal-spec =
@@ -145,7 +142,7 @@ encode-normal-spec =
     same-length-2
     returns
     write-normal-requires
-    clear-from-requires
+    clear-words-requires
     done-requires
     same-length-3
     same-length-4

@@ -25,8 +25,8 @@ returns c =
 write-raw-requires : tie.Need-write-raw-requires
 write-raw-requires c κs = search needs
 
-clear-from-requires : tie.Need-clear-from-requires
-clear-from-requires c κs = written-inside _ _ _ (c .before .before .before .write-raw .ensures)
+clear-words-requires : tie.Need-clear-words-requires
+clear-words-requires c κs = search needs
 
 done-requires : tie.Need-done-requires
 done-requires c κs = search needs
@@ -34,16 +34,16 @@ done-requires c κs = search needs
 same-length : tie.Need-same-length
 same-length c =
     let e = c .before .before .before in
-    cleared-long _ _ _ (e .before .before .before .before .write-raw .ensures) (e .clear-from .ensures)
+    cleared-long _ _ _ (e .before .before .before .before .write-raw .ensures) (e .clear-words .ensures)
 
 returns-2 : tie.Need-returns-2
 returns-2 c =
     let e = c .before .before .before in
     let w = e .before .before .before .before in
     let i = w .before .before in
-    outcome-written _ _ _ (i .before .before .count-raw .ensures) (w .write-raw .ensures) (e .clear-from .ensures) (c .done .ensures) (i .if1 .left)
+    outcome-written _ _ _ (i .before .before .count-raw .ensures) (w .write-raw .ensures) (e .clear-words .ensures) (c .done .ensures) (i .if1 .left)
 
 pub encode-raw-spec : {M : Type 1} → statement M
 encode-raw-spec =
     tie.close
-    (tie.spec add-count-raw count-raw-requires refused-requires returns write-raw-requires clear-from-requires done-requires same-length returns-2)
+    (tie.spec add-count-raw count-raw-requires refused-requires returns write-raw-requires clear-words-requires done-requires same-length returns-2)

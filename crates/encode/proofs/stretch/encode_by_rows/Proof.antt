@@ -44,14 +44,14 @@ part-first-bytes-start c = search needs
 part-first-bytes-end : tie.Need-part-first-bytes-end
 part-first-bytes-end c = search needs
 
-sub-buckets : tie.Need-sub-buckets
-sub-buckets c = search needs
+sub-row-index : tie.Need-sub-row-index
+sub-row-index c = search needs
 
-part-buckets-start : tie.Need-part-buckets-start
-part-buckets-start c = search needs
+part-row-index-start : tie.Need-part-row-index-start
+part-row-index-start c = search needs
 
-part-buckets-end : tie.Need-part-buckets-end
-part-buckets-end c = search needs
+part-row-index-end : tie.Need-part-row-index-end
+part-row-index-end c = search needs
 
 encode-units-requires : tie.Need-encode-units-requires
 encode-units-requires c κs = search needs
@@ -83,9 +83,9 @@ encode-by-rows-spec =
     sub-first-bytes
     part-first-bytes-start
     part-first-bytes-end
-    sub-buckets
-    part-buckets-start
-    part-buckets-end
+    sub-row-index
+    part-row-index-start
+    part-row-index-end
     encode-units-requires
     same-length
     returns)

@@ -21,22 +21,22 @@ use Rattle.encode.proofs.stretch.encode_rest.Statement.{statement}
 use Rattle.encode.proofs.stretch.encode_rest.Tie as tie
 
 abbrev Inv-loop : tie.InvT-loop
-Inv-loop kind noted count adjacency piece-bytes piece-offsets lookup fallback first-bytes mark-id left right result rank buckets shift section raw start₀ out₀ from₀ written₀ out from written =
-    let row = rowIn left right result rank buckets shift in
+Inv-loop kind noted count adjacency piece-bytes piece-offsets lookup fallback first-bytes mark-id left right result rank row-index shift section raw start₀ out₀ from₀ written₀ out from written =
+    let row = rowIn left right result rank row-index shift in
     let own = ownFound piece-bytes piece-offsets lookup first-bytes mark-id in
     let cuts = cutBy kind (namedCrossings (strings piece-bytes piece-offsets) noted count) (pairNoted adjacency) raw section in
     (from ≤ length section)
     × Going (unitWriters row own fallback false raw (unitsFrom cuts section start₀)) (unitWriters row own fallback false raw (unitsFrom cuts section from)) out₀ out written
 
 abbrev μ-loop : tie.MeasureT-loop
-μ-loop kind noted count adjacency piece-bytes piece-offsets lookup fallback first-bytes mark-id left right result rank buckets shift section raw start₀ out₀ from₀ written₀ out from written = length section - from
+μ-loop kind noted count adjacency piece-bytes piece-offsets lookup fallback first-bytes mark-id left right result rank row-index shift section raw start₀ out₀ from₀ written₀ out from written = length section - from
 
 abbrev start : tie.After-slice-known Inv-loop μ-loop → tie.Start Inv-loop μ-loop
 start f = f .before .before .before .before .before .before .before .before .before .before .before .before .before .before
 
 -- The rows, own ids and cuts by what is lent.
 abbrev rowOf : tie.Start Inv-loop μ-loop → ℕ → ℕ → Option Row
-rowOf s = rowIn (s .args .left .now) (s .args .right .now) (s .args .result .now) (s .args .rank .now) (s .args .buckets .now) (s .args .shift)
+rowOf s = rowIn (s .args .left .now) (s .args .right .now) (s .args .result .now) (s .args .rank .now) (s .args .row-index .now) (s .args .shift)
 
 abbrev ownOf : tie.Start Inv-loop μ-loop → List ℕ → Option ℕ
 ownOf s = ownFound (s .args .piece-bytes .now) (s .args .piece-offsets .now) (s .args .lookup .now) (s .args .first-bytes .now) (s .args .mark-id)

@@ -25,7 +25,7 @@ start f = f .before .before .before .before .before .before .before .before .bef
 
 -- The rows, own ids and cuts by what is lent.
 abbrev rowOf : tie.Start → ℕ → ℕ → Option Row
-rowOf s = rowIn (s .args .left .now) (s .args .right .now) (s .args .result .now) (s .args .rank .now) (s .args .buckets .now) (s .args .shift)
+rowOf s = rowIn (s .args .left .now) (s .args .right .now) (s .args .result .now) (s .args .rank .now) (s .args .row-index .now) (s .args .shift)
 
 abbrev ownOf : tie.Start → List ℕ → Option ℕ
 ownOf s = ownFound (s .args .piece-bytes .now) (s .args .piece-offsets .now) (s .args .lookup .now) (s .args .first-bytes .now) (s .args .mark-id)

@@ -21,13 +21,13 @@ returns : tie.Need-returns
 returns c =
     let f = c .before .before .before .before .before .before in
     let a = start f .args in
-    unit-merged (rowIn (a .left .now) (a .right .now) (a .result .now) (a .rank .now) (a .buckets .now) (a .shift)) (ownFound (a .piece-bytes .now) (a .piece-offsets .now) (a .lookup .now) (a .first-bytes .now) (a .mark-id)) (a .fallback .now) (markedChars (a .virtual-mark) (a .raw) (a .unit .now)) (a .out .now) (f .init-symbols .ensures) (c .before .before .bpe-merge-symbols-ranked .ensures)
+    unit-merged (rowIn (a .left .now) (a .right .now) (a .result .now) (a .rank .now) (a .row-index .now) (a .shift)) (ownFound (a .piece-bytes .now) (a .piece-offsets .now) (a .lookup .now) (a .first-bytes .now) (a .mark-id)) (a .fallback .now) (markedChars (a .virtual-mark) (a .raw) (a .unit .now)) (a .out .now) (f .init-symbols .ensures) (c .before .before .bpe-merge-symbols-ranked .ensures)
 
 same-length : tie.Need-same-length
 same-length c =
     let a = start (c .before .before .before .before .before .before) .args in
     ap (λ (d : Merged). length (d .ids)) (returns c)
-    ∙ keeps-unit (rowIn (a .left .now) (a .right .now) (a .result .now) (a .rank .now) (a .buckets .now) (a .shift)) (ownFound (a .piece-bytes .now) (a .piece-offsets .now) (a .lookup .now) (a .first-bytes .now) (a .mark-id)) (a .fallback .now) (markedChars (a .virtual-mark) (a .raw) (a .unit .now)) .long (a .out .now)
+    ∙ keeps-unit (rowIn (a .left .now) (a .right .now) (a .result .now) (a .rank .now) (a .row-index .now) (a .shift)) (ownFound (a .piece-bytes .now) (a .piece-offsets .now) (a .lookup .now) (a .first-bytes .now) (a .mark-id)) (a .fallback .now) (markedChars (a .virtual-mark) (a .raw) (a .unit .now)) .long (a .out .now)
 
 pub encode-unit-spec : {M : Type 1} → statement M
 encode-unit-spec = tie.close (tie.spec init-symbols-requires bpe-merge-symbols-ranked-requires same-length returns)

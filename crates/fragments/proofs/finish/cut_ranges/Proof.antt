@@ -69,11 +69,8 @@ write-ranges-requires c κs = let e = c .before in
     let s = start (e .before .before) in
     ((s .pre .0 .0, omega (arith, s .pre .0 .1)), (s .pre .1, room e))
 
-clear-from-requires : tie.Need-clear-from-requires
-clear-from-requires c κs = let w = c .before .before .before in
-    let e = tested w in
-    let k = e .before .before in
-    omega (arith, w .write-ranges .ensures .0, written-long (numbers k) (start k .args .out .now) _ _ (w .write-ranges .ensures .0) (w .write-ranges .ensures .1) (room e), room e)
+clear-words-requires : tie.Need-clear-words-requires
+clear-words-requires c κs = search needs
 
 done-requires : tie.Need-done-requires
 done-requires c κs = search needs
@@ -83,14 +80,14 @@ same-length c = let f = c .before .before .before in
     let w = f .before .before .before .before in
     let e = tested w in
     let k = e .before .before in
-    cleared-long (numbers k) (start k .args .out .now) _ _ (w .write-ranges .ensures .0) (w .write-ranges .ensures .1) (room e) _ (f .clear-from .ensures)
+    cleared-long (numbers k) (start k .args .out .now) _ _ (w .write-ranges .ensures .0) (w .write-ranges .ensures .1) (room e) _ (f .clear-words .ensures)
 
 returns-2 : tie.Need-returns-2
 returns-2 c = let f = c .before .before .before in
     let w = f .before .before .before .before in
     let e = tested w in
     let k = e .before .before in
-    ranges-done (numbers k) (start k .args .out .now) _ _ (w .write-ranges .ensures .0) (w .write-ranges .ensures .1) (room e) (c .done .result) _ (f .clear-from .ensures) (c .done .ensures)
+    ranges-done (numbers k) (start k .args .out .now) _ _ (w .write-ranges .ensures .0) (w .write-ranges .ensures .1) (room e) (c .done .result) _ (f .clear-words .ensures) (c .done .ensures)
 
 pub cut-ranges-spec : {M : Type 1} → statement M
 cut-ranges-spec =
@@ -102,7 +99,7 @@ cut-ranges-spec =
     refused-requires
     returns
     write-ranges-requires
-    clear-from-requires
+    clear-words-requires
     done-requires
     same-length
     returns-2)

@@ -1,5 +1,5 @@
 -- `merge::ranked::bpe_merge_symbols_ranked` meets its contract. The loop's invariant: the `n` ids that are left merge to what the first
--- ones merge to, and the memo knows rows of pairs.
+-- ones merge to.
 use native.Mathlib.Omega.{arith}
 use mathlib.Core.Path.{sym}
 use borrow.Author.Needs.{needs}
@@ -7,30 +7,27 @@ use lib.ListN.{take}
 use lib.Seq.{length-take-le}
 use Rattle.merge.specs.Merge.{nextMerge}
 use Rattle.merge.specs.inner.Turns.{rowIn}
-use Rattle.merge.specs.inner.Memo.{Memo}
-use Rattle.merge.proofs.MemoLaws.{memo-start}
 use Rattle.merge.proofs.FrontLaws.{Picked, picked, stopped, Merging, merging-start, merging-fits, merging-inside, merging-some, merging-next, merging-ended}
 use Rattle.merge.proofs.ranked.bpe_merge_symbols_ranked.Statement.{statement}
 use Rattle.merge.proofs.ranked.bpe_merge_symbols_ranked.Tie as tie
 
 abbrev Inv-loop : tie.InvT-loop
-Inv-loop left right result rank buckets shift ids₀ count memo₀ n₀ ids memo n =
-    Merging (rowIn left right result rank buckets shift) n₀ ids₀ ids n × Memo (rowIn left right result rank buckets shift) memo
+Inv-loop left right result rank row-index shift ids₀ count n₀ ids n = Merging (rowIn left right result rank row-index shift) n₀ ids₀ ids n
 
 abbrev μ-loop : tie.MeasureT-loop
-μ-loop left right result rank buckets shift ids₀ count memo₀ n₀ ids memo n = n
+μ-loop left right result rank row-index shift ids₀ count n₀ ids n = n
 
 abbrev start : tie.After-lesser Inv-loop μ-loop → tie.Start Inv-loop μ-loop
 start f = f .before .before .before .before .before .before .before
 
 abbrev loop : tie.After-place Inv-loop μ-loop → tie.At-loop Inv-loop μ-loop
-loop p = p .before .before .before .before .before .before
+loop p = p .before .before .before .before
 
 -- The pair that is merged next.
 pick : (p : tie.After-place Inv-loop μ-loop)
-    → Picked (nextMerge (rowIn (start (loop p .before) .args .left .now) (start (loop p .before) .args .right .now) (start (loop p .before) .args .result .now) (start (loop p .before) .args .rank .now) (start (loop p .before) .args .buckets .now) (start (loop p .before) .args .shift)) (take (loop p .loop .n) (loop p .loop .ids)))
+    → Picked (nextMerge (rowIn (start (loop p .before) .args .left .now) (start (loop p .before) .args .right .now) (start (loop p .before) .args .result .now) (start (loop p .before) .args .rank .now) (start (loop p .before) .args .row-index .now) (start (loop p .before) .args .shift)) (take (loop p .loop .n) (loop p .loop .ids)))
     (p .place .given .0 .0) (p .place .given .0 .1 .0)
-pick p = picked _ (p .before .before .before .next-merge .ensures .same) (p .place .given .1)
+pick p = picked _ (p .before .before .next-merge .ensures) (p .place .given .1)
 
 lesser-requires : tie.Need-lesser-requires Inv-loop μ-loop
 lesser-requires c κs = search needs
@@ -38,61 +35,58 @@ lesser-requires c κs = search needs
 loop-holds : tie.Need-loop-holds Inv-loop μ-loop
 loop-holds c =
     let st = start c .args in
-    (merging-start (rowIn (st .left .now) (st .right .now) (st .result .now) (st .rank .now) (st .buckets .now) (st .shift)) (c .lesser .result) (st .ids .now) (omega (arith, c .lesser .ensures)), memo-start (rowIn (st .left .now) (st .right .now) (st .result .now) (st .rank .now) (st .buckets .now) (st .shift)))
-
-slice-aggregate-next-merge : tie.Need-slice-aggregate-next-merge Inv-loop μ-loop
-slice-aggregate-next-merge c = sym (c .before .loop .inv .1 .long)
+    merging-start (rowIn (st .left .now) (st .right .now) (st .result .now) (st .rank .now) (st .row-index .now) (st .shift)) (c .lesser .result) (st .ids .now) (omega (arith, c .lesser .ensures))
 
 slice-reshare-prefix-next-merge : tie.Need-slice-reshare-prefix-next-merge Inv-loop μ-loop
-slice-reshare-prefix-next-merge c = merging-fits (c .before .loop .inv .0)
+slice-reshare-prefix-next-merge c = merging-fits (c .loop .inv)
 
-slice-aggregate-next-merge-2 : tie.Need-slice-aggregate-next-merge-2 Inv-loop μ-loop
-slice-aggregate-next-merge-2 c =
-    let a = c .before .before in
-    sym (length-take-le (a .loop .n) (a .loop .ids) (merging-fits (a .loop .inv .0)))
+slice-aggregate-next-merge : tie.Need-slice-aggregate-next-merge Inv-loop μ-loop
+slice-aggregate-next-merge c =
+    let a = c .before in
+    sym (length-take-le (a .loop .n) (a .loop .ids) (merging-fits (a .loop .inv)))
 
 next-merge-requires : tie.Need-next-merge-requires Inv-loop μ-loop
-next-merge-requires c κs = c .before .before .loop .inv .1
+next-merge-requires c κs = search needs
 
 enum-told : tie.Need-enum-told Inv-loop μ-loop
 enum-told c = search needs
 
 same-length : tie.Need-same-length Inv-loop μ-loop
-same-length c = c .before .before .before .before .before .before .loop .inv .0 .size
+same-length c = c .before .before .before .before .loop .inv .size
 
 returns : tie.Need-returns Inv-loop μ-loop
 returns c =
-    let a = c .before .before .before .before .before .before in
-    merging-ended (a .loop .inv .0) (start (a .before) .args .count) (a .before .lesser .ensures) (stopped _ (c .before .before .before .next-merge .ensures .same) (c .enum-told .given .1))
+    let a = c .before .before .before .before in
+    merging-ended (a .loop .inv) (start (a .before) .args .count) (a .before .lesser .ensures) (stopped _ (c .before .before .next-merge .ensures) (c .enum-told .given .1))
 
 enum-known-place : tie.Need-enum-known-place Inv-loop μ-loop
 enum-known-place c = search needs
 
 slice-relend-prefix-merge-at : tie.Need-slice-relend-prefix-merge-at Inv-loop μ-loop
-slice-relend-prefix-merge-at c = merging-fits (loop (c .before) .loop .inv .0)
+slice-relend-prefix-merge-at c = merging-fits (loop (c .before) .loop .inv)
 
 slice-aggregate-merge-at : tie.Need-slice-aggregate-merge-at Inv-loop μ-loop
 slice-aggregate-merge-at c =
     let a = loop (c .before .before) in
-    sym (length-take-le (a .loop .n) (a .loop .ids) (merging-fits (a .loop .inv .0)))
+    sym (length-take-le (a .loop .n) (a .loop .ids) (merging-fits (a .loop .inv)))
 
 merge-at-requires : tie.Need-merge-at-requires Inv-loop μ-loop
-merge-at-requires c κs = merging-inside (loop (c .before .before) .loop .inv .0) (pick (c .before .before))
+merge-at-requires c κs = merging-inside (loop (c .before .before) .loop .inv) (pick (c .before .before))
 
 sub-n : tie.Need-sub-n Inv-loop μ-loop
 sub-n c =
     let p = c .before .before .before .before .before in
-    omega (arith, merging-some (loop p .loop .inv .0) (pick p))
+    omega (arith, merging-some (loop p .loop .inv) (pick p))
 
 loop-less : tie.Need-loop-less Inv-loop μ-loop
 loop-less c =
     let p = c .before .before .before .before .before in
-    omega (arith, merging-some (loop p .loop .inv .0) (pick p))
+    omega (arith, merging-some (loop p .loop .inv) (pick p))
 
 loop-again : tie.Need-loop-again Inv-loop μ-loop
 loop-again c =
     let p = c .before .before .before .before .before in
-    (merging-next (loop p .loop .inv .0) (pick p) (rw (c .before .before .merge-at .ensures)), p .before .before .before .next-merge .ensures .memo)
+    merging-next (loop p .loop .inv) (pick p) (rw (c .before .before .merge-at .ensures))
 
 pub bpe-merge-symbols-ranked-spec : {M : Type 1} → statement M
 bpe-merge-symbols-ranked-spec =
@@ -102,9 +96,8 @@ bpe-merge-symbols-ranked-spec =
     μ-loop
     lesser-requires
     loop-holds
-    slice-aggregate-next-merge
     slice-reshare-prefix-next-merge
-    slice-aggregate-next-merge-2
+    slice-aggregate-next-merge
     next-merge-requires
     enum-told
     same-length

@@ -7,14 +7,14 @@ use Rattle.model.specs.Answers.{zeros}
 use Rattle.normalise.proofs.finish.clear.Statement.{statement}
 use Rattle.normalise.proofs.finish.clear.Tie as tie
 
-clear-from-requires : tie.Need-clear-from-requires
-clear-from-requires c κs = search needs
+clear-bytes-requires : tie.Need-clear-bytes-requires
+clear-bytes-requires c κs = search needs
 
 same-length : tie.Need-same-length
 same-length c = search needs
 
 returns : tie.Need-returns
-returns c = c .before .before .clear-from .ensures ∙ ap zeros (sub-zero (length (c .before .before .before .before .before .args .buffer .now)))
+returns c = c .before .before .clear-bytes .ensures ∙ ap zeros (sub-zero (length (c .before .before .before .before .before .args .buffer .now)))
 
 pub clear-spec : {M : Type 1} → statement M
-clear-spec = tie.close (tie.spec clear-from-requires same-length returns)
+clear-spec = tie.close (tie.spec clear-bytes-requires same-length returns)

@@ -26,8 +26,8 @@ returns c =
 copy-at-requires : tie.Need-copy-at-requires
 copy-at-requires c κs = search needs
 
-clear-from-requires : tie.Need-clear-from-requires
-clear-from-requires c κs = search needs
+clear-bytes-requires : tie.Need-clear-bytes-requires
+clear-bytes-requires c κs = search needs
 
 done-requires : tie.Need-done-requires
 done-requires c κs = search needs
@@ -38,8 +38,8 @@ same-length c = search needs
 returns-2 : tie.Need-returns-2
 returns-2 c =
     let st = start (fitting c) .args in
-    ap (λ (a : Answer). (let o : Outcome = record { answer = a; out = c .before .before .before .clear-from .last .0 } in o)) (c .done .ensures)
-    ∙ finished-fits (st .result .now) (st .out .now) _ _ (fitting c .if1 .left) (c .before .before .before .before .before .before .before .copy-at .ensures) (c .before .before .before .clear-from .ensures)
+    ap (λ (a : Answer). (let o : Outcome = record { answer = a; out = c .before .before .before .clear-bytes .last .0 } in o)) (c .done .ensures)
+    ∙ finished-fits (st .result .now) (st .out .now) _ _ (fitting c .if1 .left) (c .before .before .before .before .before .before .before .copy-at .ensures) (c .before .before .before .clear-bytes .ensures)
 
 pub finish-spec : {M : Type 1} → statement M
 finish-spec =
@@ -48,7 +48,7 @@ finish-spec =
     refused-requires
     returns
     copy-at-requires
-    clear-from-requires
+    clear-bytes-requires
     done-requires
     same-length
     returns-2)

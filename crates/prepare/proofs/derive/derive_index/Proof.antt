@@ -23,7 +23,7 @@ use Rattle.prepare.proofs.derive.derive_index.Tie as tie
 
 -- the start of the call, from where the kind is known
 abbrev start : tie.After-word-split → tie.Start
-start c = c .before .before .before .before .before .before .before .before .before .before .before .before
+start c = c .before .before .before .before .before .before .before .before .before .before .before .before .before .before
 
 abbrev pieces : tie.Start → List (List ℕ)
 pieces s = strings (s .args .piece-bytes .now) (s .args .piece-offsets .now)
@@ -42,12 +42,12 @@ split c = c .before .before .before .before
 few : (c : tie.After-word-split) → c .word-split .result .count ≤ 32
 few c =
     let s = start c in
-    count-small (pieces s) (s .args .lookup .now) (s .args .left .now) (first s) (second s) (s .args .step-bytes .now) (take (s .args .step-count) (s .args .steps)) (s .args .metaspace) (c .word-split .result .kind) (c .word-split .result .count) (c .word-split .last .1 .1 .1 .0) (c .word-split .ensures)
+    count-small (pieces s) (s .args .lookup .now) (s .args .left .now) (s .args .right .now) (s .args .rank .now) (first s) (second s) (s .args .step-bytes .now) (take (s .args .step-count) (s .args .steps)) (s .args .metaspace) (c .word-split .result .kind) (c .word-split .result .count) (c .word-split .last .1 .1 .1 .0) (c .word-split .ensures)
 
 long : (c : tie.After-word-split) → length (c .word-split .last .1 .1 .1 .0) ≡ 64
 long c =
     let s = start c in
-    words-64 (pieces s) (s .args .lookup .now) (s .args .left .now) (first s) (second s) (s .args .step-bytes .now) (take (s .args .step-count) (s .args .steps)) (s .args .metaspace) (c .word-split .result .kind) (c .word-split .result .count) (c .word-split .last .1 .1 .1 .0) (c .word-split .ensures)
+    words-64 (pieces s) (s .args .lookup .now) (s .args .left .now) (s .args .right .now) (s .args .rank .now) (first s) (second s) (s .args .step-bytes .now) (take (s .args .step-count) (s .args .steps)) (s .args .metaspace) (c .word-split .result .kind) (c .word-split .result .count) (c .word-split .last .1 .1 .1 .0) (c .word-split .ensures)
 
 -- ---- after the index is filled
 
@@ -63,17 +63,17 @@ module _ (c : tie.After-fill-index) where
 
   abbrev row : List ℕ
   row =
-      indexRow (numbered .before .kind-number .result) (numbered .raw-path-number .result) (filled-from .word-split .result .count) (filled-from .word-split .last .1 .1 .1 .0) (pieces at-start) (at-start .args .lookup .now) (at-start .args .left .now) (first at-start) (second at-start)
+      indexRow (numbered .before .kind-number .result) (numbered .raw-path-number .result) (filled-from .word-split .result .count) (filled-from .word-split .last .1 .1 .1 .0) (pieces at-start) (at-start .args .lookup .now) (at-start .args .left .now) (at-start .args .right .now) (at-start .args .rank .now) (first at-start) (second at-start)
 
-  row-long : length row ≡ 4936
+  row-long : length row ≡ 136008
   row-long =
-      length-index (numbered .before .kind-number .result) (numbered .raw-path-number .result) (filled-from .word-split .result .count) (filled-from .word-split .last .1 .1 .1 .0) (pieces at-start) (at-start .args .lookup .now) (at-start .args .left .now) (first at-start) (second at-start) (long filled-from)
+      length-index (numbered .before .kind-number .result) (numbered .raw-path-number .result) (filled-from .word-split .result .count) (filled-from .word-split .last .1 .1 .1 .0) (pieces at-start) (at-start .args .lookup .now) (at-start .args .left .now) (at-start .args .right .now) (at-start .args .rank .now) (first at-start) (second at-start) (long filled-from)
 
   fits : length row ≤ length (at-start .args .out .now)
   fits = omega (arith, row-long, at-start .pre .1 .1 .1)
 
-  room : 4936 ≤ length (c .fill-index .last .1 .1 .1 .1 .1 .1 .1 .1 .1 .1 .1 .1 .0)
-  room = omega (arith, row-long, ap length (c .fill-index .ensures), length-append row (drop 4936 (at-start .args .out .now)))
+  room : 136008 ≤ length (c .fill-index .last .1 .1 .1 .1 .1 .1 .1 .1 .1 .1 .1 .1 .1 .1 .0)
+  room = omega (arith, row-long, ap length (c .fill-index .ensures), length-append row (drop 136008 (at-start .args .out .now)))
 
   -- whether there are tokens in the second list
   empty-is : eqb (numbered .before .before .before .string-count .result) 0 ≡ isEmpty (second at-start)
@@ -88,10 +88,10 @@ module _ (c : tie.After-fill-index) where
       (λ (empty : Bool). rawPathBy (filled-from .word-split .result .kind) empty (at-start .args .step-bytes .now) (take (at-start .args .step-count) (at-start .args .steps)) (at-start .args .metaspace))
       empty-is
 
-  row-is : row ≡ indexOf (pieces at-start) (at-start .args .lookup .now) (at-start .args .left .now) (first at-start) (second at-start) (at-start .args .step-bytes .now) (take (at-start .args .step-count) (at-start .args .steps)) (at-start .args .metaspace)
+  row-is : row ≡ indexOf (pieces at-start) (at-start .args .lookup .now) (at-start .args .left .now) (at-start .args .right .now) (at-start .args .rank .now) (first at-start) (second at-start) (at-start .args .step-bytes .now) (take (at-start .args .step-count) (at-start .args .steps)) (at-start .args .metaspace)
   row-is =
       let s = at-start in
-      index-derived (pieces s) (s .args .lookup .now) (s .args .left .now) (first s) (second s) (s .args .step-bytes .now) (take (s .args .step-count) (s .args .steps)) (s .args .metaspace) (filled-from .word-split .result .kind) (filled-from .word-split .result .count) (filled-from .word-split .last .1 .1 .1 .0) (filled-from .word-split .ensures)
+      index-derived (pieces s) (s .args .lookup .now) (s .args .left .now) (s .args .right .now) (s .args .rank .now) (first s) (second s) (s .args .step-bytes .now) (take (s .args .step-count) (s .args .steps)) (s .args .metaspace) (filled-from .word-split .result .kind) (filled-from .word-split .result .count) (filled-from .word-split .last .1 .1 .1 .0) (filled-from .word-split .ensures)
       (numbered .before .before .raw-path .result) (numbered .before .kind-number .result) (numbered .raw-path-number .result) path-is (numbered .before .kind-number .ensures) (numbered .raw-path-number .ensures)
 
 word-split-requires : tie.Need-word-split-requires
@@ -120,8 +120,8 @@ fill-index-requires c κs =
     let s = start (split (c .before .before .before)) in
     (s .pre .0, (s .pre .1 .0, (s .pre .1 .1 .0, (long (split (c .before .before .before)), s .pre .1 .1 .1))))
 
-clear-from-requires : tie.Need-clear-from-requires
-clear-from-requires c κs = room (c .before .before .before)
+clear-words-requires : tie.Need-clear-words-requires
+clear-words-requires c κs = search needs
 
 same-length : tie.Need-same-length
 same-length c = search needs
@@ -130,7 +130,7 @@ returns : tie.Need-returns
 returns c =
     let f = c .before .before .before .before .before .before in
     let s = start (filled-from f) in
-    cleared-behind (row f) (s .args .out .now) (fits f) (f .fill-index .last .1 .1 .1 .1 .1 .1 .1 .1 .1 .1 .1 .1 .0) (c .before .before .clear-from .last .0) 4936 (row-long f) (f .fill-index .ensures) (c .before .before .clear-from .ensures)
+    cleared-behind (row f) (s .args .out .now) (fits f) (f .fill-index .last .1 .1 .1 .1 .1 .1 .1 .1 .1 .1 .1 .1 .1 .1 .0) (c .before .before .clear-words .last .0) 136008 (row-long f) (f .fill-index .ensures) (c .before .before .clear-words .ensures)
     ∙ ap (λ (words : List ℕ). filled words (s .args .out .now)) (row-is f)
 
 pub derive-index-spec : {M : Type 1} → statement M
@@ -145,6 +145,6 @@ derive-index-spec =
     cast-fill-index
     slice-aggregate-fill-index
     fill-index-requires
-    clear-from-requires
+    clear-words-requires
     same-length
     returns)

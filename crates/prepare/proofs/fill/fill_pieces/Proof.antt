@@ -1,21 +1,22 @@
 -- `prepare::fill::fill_pieces` meets its contract: its parts are written one after the other.
-use mathlib.Core.Path.{_≡_, sym, ap, _∙_}
+use mathlib.Core.Path.{_≡_, refl, sym, ap, _∙_}
 use mathlib.Core.List.{List, _++_}
 use Prim.Native.Nat.{ℕ, _≤_}
 use native.Mathlib.Omega.{arith}
 use borrow.Author.Needs.{needs}
-use lib.ListN.{length, drop, length-set}
+use lib.ListN.{length, take, drop, length-set, length-drop}
+use lib.Seq.{length-take-le}
 use Rattle.model.specs.Model.{strings}
 use Rattle.model.proofs.StringLaws.{length-strings}
-use Rattle.index.specs.Index.{markId, bucketShift}
+use Rattle.index.specs.Index.{markId, bucketShift, pairWords}
 use Rattle.prepare.specs.Layout.{pieceWords}
-use Rattle.prepare.proofs.LayoutLaws.{crossed-long, started-long, last-long, pieces-filled}
+use Rattle.prepare.proofs.LayoutLaws.{lent-back, crossed-long, started-long, bucketed-long, last-long, pieces-filled}
 use Rattle.prepare.proofs.fill.fill_pieces.Statement.{statement}
 use Rattle.prepare.proofs.fill.fill_pieces.Tie as tie
 
 -- the start of the call, from where the mark's id is known
 abbrev start : tie.After-mark-id → tie.Start
-start c = c .before .before .before .before .before .before .before .before .before
+start c = c .before .before .before .before .before .before .before .before .before .before .before
 
 abbrev pieces : tie.Start → List (List ℕ)
 pieces s = strings (s .args .piece-bytes .now) (s .args .piece-offsets .now)
@@ -27,7 +28,7 @@ bucket-shift-requires : tie.Need-bucket-shift-requires
 bucket-shift-requires c κs = search needs
 
 mark-id-requires : tie.Need-mark-id-requires
-mark-id-requires c κs = c .before .before .before .before .before .before .before .before .pre .0
+mark-id-requires c κs = c .before .before .before .before .before .before .before .before .before .before .pre .0
 
 -- the mark's id and the shift are those of the index
 mark-is : (c : tie.After-mark-id) → c .mark-id .result ≡ markId (pieces (start c)) (start c .args .lookup .now)
@@ -39,14 +40,14 @@ shift-is c =
     ∙ ap bucketShift (c .before .before .string-count .ensures ∙ sym (length-strings (start c .args .piece-bytes .now) (start c .args .piece-offsets .now)))
 
 -- there is room
-room : (s : tie.Start) → 4423 ≤ length (s .args .words .now)
+room : (s : tie.Start) → 135495 ≤ length (s .args .words .now)
 room s = s .pre .1 .1 .1 .1
 
 -- the buffer after each call is as long as it was
 long-1 : (c : tie.After-copy-crossings) → length (c .copy-crossings .last .1 .0) ≡ length (start (c .before .before) .args .words .now)
 long-1 c =
     let s = start (c .before .before) in
-    crossed-long (s .args .kind) (s .args .raw-path) (s .args .count) (s .args .noted .now) (pieces s) (s .args .lookup .now) (s .args .left .now) (s .pre .1 .1 .1 .0) (s .args .words .now) (room s)
+    crossed-long (s .args .kind) (s .args .raw-path) (s .args .count) (s .args .noted .now) (pieces s) (s .args .lookup .now) (s .args .left .now) (s .args .right .now) (s .args .rank .now) (s .pre .1 .1 .1 .0) (s .args .words .now) (room s)
     (c .copy-crossings .last .1 .0) (c .copy-crossings .ensures)
 
 module _ (c : tie.After-fill-first-bytes) where
@@ -59,7 +60,7 @@ module _ (c : tie.After-fill-first-bytes) where
   long-2 : length (c .fill-first-bytes .last .1 .1 .1 .0) ≡ length (start marked .args .words .now)
   long-2 =
       let s = start marked in
-      started-long (s .args .kind) (s .args .raw-path) (s .args .count) (s .args .noted .now) (pieces s) (s .args .lookup .now) (s .args .left .now) (s .pre .1 .1 .1 .0) (s .args .words .now) (room s)
+      started-long (s .args .kind) (s .args .raw-path) (s .args .count) (s .args .noted .now) (pieces s) (s .args .lookup .now) (s .args .left .now) (s .args .right .now) (s .args .rank .now) (s .pre .1 .1 .1 .0) (s .args .words .now) (room s)
       (crossed .copy-crossings .last .1 .0) (crossed .copy-crossings .ensures) (marked .mark-id .result) (marked .before .bucket-shift .result) (mark-is marked) (shift-is marked)
       (c .fill-first-bytes .last .1 .1 .1 .0) (c .fill-first-bytes .ensures)
 
@@ -70,21 +71,49 @@ module _ (c : tie.After-fill-buckets) where
   abbrev at-start : tie.Start
   at-start = start (marked started)
 
-  long-3 : length (c .fill-buckets .last .1 .1 .0) ≡ length (at-start .args .words .now)
+  abbrev bucketed : List ℕ
+  bucketed = c .fill-buckets .last .1 .1 .0
+
+  long-3 : length bucketed ≡ length (at-start .args .words .now)
   long-3 =
       let s = at-start in
-      last-long (s .args .kind) (s .args .raw-path) (s .args .count) (s .args .noted .now) (pieces s) (s .args .lookup .now) (s .args .left .now) (s .pre .1 .1 .1 .0) (s .args .words .now) (room s)
+      bucketed-long (s .args .kind) (s .args .raw-path) (s .args .count) (s .args .noted .now) (pieces s) (s .args .lookup .now) (s .args .left .now) (s .args .right .now) (s .args .rank .now) (s .pre .1 .1 .1 .0) (s .args .words .now) (room s)
       (crossed started .copy-crossings .last .1 .0) (crossed started .copy-crossings .ensures) (marked started .mark-id .result) (marked started .before .bucket-shift .result) (mark-is (marked started)) (shift-is (marked started))
-      (started .fill-first-bytes .last .1 .1 .1 .0) (started .fill-first-bytes .ensures) (c .fill-buckets .last .1 .1 .0) (c .fill-buckets .ensures)
+      (started .fill-first-bytes .last .1 .1 .1 .0) (started .fill-first-bytes .ensures) bucketed (c .fill-buckets .ensures)
+
+module _ (c : tie.After-fill-pairs) where
+  abbrev before : tie.After-fill-buckets
+  before = c .before .before .before .before
+
+  abbrev entry : tie.Start
+  entry = at-start before
+
+  -- the buffer with the pair table
+  abbrev last : List ℕ
+  last = take 4423 (bucketed before) ++ (c .fill-pairs .last .1 .1 .1 .0 ++ drop 131072 (drop 4423 (bucketed before)))
+
+  last-is : last ≡ take 4423 (bucketed before) ++ pairWords (entry .args .left .now) (entry .args .right .now) (entry .args .rank .now) ++ drop 135495 (bucketed before)
+  last-is =
+      lent-back 4423 131072 135495 (bucketed before) (c .fill-pairs .last .1 .1 .1 .0)
+      (λ (n : ℕ). pairWords (entry .args .left .now) (entry .args .right .now) (entry .args .rank .now)) refl (omega (arith, long-3 before, room entry)) (c .fill-pairs .ensures)
+
+  long-4 : length last ≡ length (entry .args .words .now)
+  long-4 =
+      let s = entry in
+      let t = started before in
+      last-long (s .args .kind) (s .args .raw-path) (s .args .count) (s .args .noted .now) (pieces s) (s .args .lookup .now) (s .args .left .now) (s .args .right .now) (s .args .rank .now) (s .pre .1 .1 .1 .0) (s .args .words .now) (room s)
+      (crossed t .copy-crossings .last .1 .0) (crossed t .copy-crossings .ensures) (marked t .mark-id .result) (marked t .before .bucket-shift .result) (mark-is (marked t)) (shift-is (marked t))
+      (t .fill-first-bytes .last .1 .1 .1 .0) (t .fill-first-bytes .ensures) (bucketed before) (before .fill-buckets .ensures) last last-is
 
   whole :
-      c .fill-buckets .last .1 .1 .0
-      ≡ pieceWords (at-start .args .kind) (at-start .args .raw-path) (at-start .args .count) (at-start .args .noted .now) (pieces at-start) (at-start .args .lookup .now) (at-start .args .left .now) ++ drop 4423 (at-start .args .words .now)
+      last
+      ≡ pieceWords (entry .args .kind) (entry .args .raw-path) (entry .args .count) (entry .args .noted .now) (pieces entry) (entry .args .lookup .now) (entry .args .left .now) (entry .args .right .now) (entry .args .rank .now) ++ drop 135495 (entry .args .words .now)
   whole =
-      let s = at-start in
-      pieces-filled (s .args .kind) (s .args .raw-path) (s .args .count) (s .args .noted .now) (pieces s) (s .args .lookup .now) (s .args .left .now) (s .pre .1 .1 .1 .0) (s .args .words .now) (room s)
-      (crossed started .copy-crossings .last .1 .0) (crossed started .copy-crossings .ensures) (marked started .mark-id .result) (marked started .before .bucket-shift .result) (mark-is (marked started)) (shift-is (marked started))
-      (started .fill-first-bytes .last .1 .1 .1 .0) (started .fill-first-bytes .ensures) (c .fill-buckets .last .1 .1 .0) (c .fill-buckets .ensures)
+      let s = entry in
+      let t = started before in
+      pieces-filled (s .args .kind) (s .args .raw-path) (s .args .count) (s .args .noted .now) (pieces s) (s .args .lookup .now) (s .args .left .now) (s .args .right .now) (s .args .rank .now) (s .pre .1 .1 .1 .0) (s .args .words .now) (room s)
+      (crossed t .copy-crossings .last .1 .0) (crossed t .copy-crossings .ensures) (marked t .mark-id .result) (marked t .before .bucket-shift .result) (mark-is (marked t)) (shift-is (marked t))
+      (t .fill-first-bytes .last .1 .1 .1 .0) (t .fill-first-bytes .ensures) (bucketed before) (before .fill-buckets .ensures) last last-is
 
 slice-write-words : tie.Need-slice-write-words
 slice-write-words c = omega (arith, room (start c))
@@ -112,10 +141,25 @@ fill-first-bytes-requires c κs =
 fill-buckets-requires : tie.Need-fill-buckets-requires
 fill-buckets-requires c κs =
     let s = start (marked (c .before .before .before)) in
-    (s .pre .1 .1 .0, (omega (arith, long-2 (c .before .before .before), room s), marked (c .before .before .before) .before .bucket-shift .ensures .1))
+    (omega (arith, s .pre .1 .1 .0), (omega (arith, long-2 (c .before .before .before), room s), marked (c .before .before .before) .before .bucket-shift .ensures .1))
+
+sub-fill-pairs : tie.Need-sub-fill-pairs
+sub-fill-pairs c = search needs
+
+part-fill-pairs-start : tie.Need-part-fill-pairs-start
+part-fill-pairs-start c = omega arith
+
+part-fill-pairs-end : tie.Need-part-fill-pairs-end
+part-fill-pairs-end c = let b = c .before .before in omega (arith, long-3 b, room (at-start b))
+
+fill-pairs-requires : tie.Need-fill-pairs-requires
+fill-pairs-requires c κs =
+    let b = c .before .before .before in
+    let s = at-start b in
+    (s .pre .1 .1 .0, length-take-le 131072 (drop 4423 (bucketed b)) (omega (arith, length-drop 4423 (bucketed b), long-3 b, room s)))
 
 same-length : tie.Need-same-length
-same-length c = long-3 (c .before .before)
+same-length c = long-4 (c .before .before)
 
 returns : tie.Need-returns
 returns c = whole (c .before .before)
@@ -135,5 +179,9 @@ fill-pieces-spec =
     slice-write-words-5
     fill-first-bytes-requires
     fill-buckets-requires
+    sub-fill-pairs
+    part-fill-pairs-start
+    part-fill-pairs-end
+    fill-pairs-requires
     same-length
     returns)

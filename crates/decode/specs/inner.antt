@@ -1,0 +1,2 @@
+-- What only the inner functions' contracts need.
+pub mod Feeding
