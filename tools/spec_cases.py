@@ -299,7 +299,7 @@ def first_difference(repository, case, models, buffer, expected):
         if not wrong:
             return []
         start, stop = wrong[0]
-    return [start]
+    return list(range(start, stop))
 
 
 def explain(repository, case, models):
