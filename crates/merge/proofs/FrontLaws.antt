@@ -96,13 +96,19 @@ module _ {row : ℕ → ℕ → Option Row} {whole : ℕ} {before out : List ℕ
     unfolding joinedAt mergedAt
     joined-is = rw (p .stands, p .gives)
 
+    -- The front after it.
+    pub merging-front : {after : List ℕ} → after ≡ joinedAt place result (take n out) ++ drop n out → take (n - 1) after ≡ mergedAt (p .one) (take n out)
+    merging-front {after} e =
+        let ids = mergedAt (p .one) (take n out) in
+        ap (take (n - 1)) (e ∙ rw joined-is (append-assoc ids (0 ∷ []) (drop n out))) ∙ take-at ids (0 ∷ drop n out) (n - 1) (omega (arith, found))
+
     pub merging-next : {after : List ℕ} → after ≡ joinedAt place result (take n out) ++ drop n out → Merging row whole before after (n - 1)
     merging-next {after} e =
         let ids = mergedAt (p .one) (take n out) in
         let less : length ids ≡ n - 1 = omega (arith, found) in
         let cells : zeros (whole - (n - 1)) ≡ 0 ∷ zeros (whole - n) = ap zeros (let more : whole - (n - 1) ≡ suc (whole - n) = omega (arith, found, m .within) in more) in
         let split : after ≡ ids ++ (zeros (whole - (n - 1)) ++ drop whole before) = e ∙ rw (joined-is, back-is, cells) (append-assoc ids (0 ∷ []) (zeros (whole - n) ++ drop whole before)) in
-        let front : take (n - 1) after ≡ ids = ap (take (n - 1)) split ∙ take-at ids (zeros (whole - (n - 1)) ++ drop whole before) (n - 1) less in
+        let front : take (n - 1) after ≡ ids = merging-front e in
         record {
           within = omega (arith, m .within);
           long = m .long;
@@ -122,3 +128,8 @@ module _ {row : ℕ → ℕ → Option Row} {whole : ℕ} {before out : List ℕ
       let done : merged row (take count before) ≡ take n out = ap (merged row) first ∙ m .same ∙ merged-none row (take n out) e in
       let all : length (take count before) ≡ whole = ap length first ∙ length-take-le whole before (m .long) in
       rw (done, front-long, all, last) (ap {B = Merged} (λ (l : List ℕ). record { count = n; ids = l }) (m .shape ∙ sym (append-assoc (take n out) (zeros (whole - n)) (drop whole before))))
+
+-- The ids that a buffer has room for are all that are merged.
+pub front-counted : (row : ℕ → ℕ → Option Row) (n count : ℕ) (ids : List ℕ) → n ≡ min count (length ids) → mergedFront row n ids ≡ mergedFront row count ids
+unfolding mergedFront
+front-counted row n count ids is = rw is (rw (front-min count ids, back-min count ids))

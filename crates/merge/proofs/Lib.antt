@@ -7,4 +7,5 @@ pub mod StartLaws
 pub mod WalkLaws
 pub mod TurnLaws
 pub mod FrontLaws
+pub mod KeyLaws
 pub mod ModelLaws

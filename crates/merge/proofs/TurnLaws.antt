@@ -24,40 +24,34 @@ use Rattle.merge.specs.declared.Turn.{Turn}
 use Rattle.merge.specs.declared.Turn.the-variants.{Merge, Stop}
 use Rattle.merge.specs.Merge.{Candidate, candidateAt, candidatesFrom, candidates, lowestRank, nextMerge}
 use Rattle.merge.specs.inner.Turns.{rowIn, turnOf, joinedAt}
+use Rattle.merge.specs.inner.Keys.{lowerTurn}
 use Rattle.merge.proofs.NextLaws.{lowerOf, lowest-append}
 
 -- What a turn does with the pair at a place, by the pair's row.
-abbrev turnAt : ℕ → Option Row → Turn
+abbrev pub turnAt : ℕ → Option Row → Turn
 turnAt place none = Stop
 turnAt place (some row) = Merge place (row .result) (row .rank)
-
--- The one of lower rank, of equals the first.
-abbrev lowerTurn : Turn → Turn → Turn
-lowerTurn Stop t = t
-lowerTurn (Merge place result rank) Stop = Merge place result rank
-lowerTurn (Merge place result rank) (Merge place' result' rank') =
-    cond (leb rank rank') (Merge place result rank) (Merge place' result' rank')
 
 -- ---- the row of a pair, by what the search gave
 
 module _ (left right result rank rowIndex : List ℕ) (shift place l r : ℕ) {f : Found} (found : f ≡ rowFrom left right rowIndex shift l r) where
-  row-at : {i k : ℕ} → f ≡ At i → k ≡ getD rank i 0 → Merge place (getD result i 0) k ≡ turnAt place (rowIn left right result rank rowIndex shift l r)
+  pub row-at : {i k : ℕ} → f ≡ At i → k ≡ getD rank i 0 → Merge place (getD result i 0) k ≡ turnAt place (rowIn left right result rank rowIndex shift l r)
   unfolding rowIn rowFound
   row-at {i} e k-is =
       let inside : i < length left = found-inside left right rowIndex shift l r (sym found ∙ e) in
       rw (← found, e) (rw (row-is left right result rank i (record { left = 0; right = 0; result = 0; rank = 0 }) inside, k-is))
 
-  row-missing : f ≡ Nothing → Stop ≡ turnAt place (rowIn left right result rank rowIndex shift l r)
+  pub row-missing : f ≡ Nothing → Stop ≡ turnAt place (rowIn left right result rank rowIndex shift l r)
   unfolding rowIn rowFound
   row-missing e = rw (← found, e)
 
 -- ---- the lower of two turns
 
-lower-stop : (t : Turn) → lowerTurn t Stop ≡ t
+pub lower-stop : (t : Turn) → lowerTurn t Stop ≡ t
 lower-stop Stop = refl
 lower-stop (Merge place result rank) = refl
 
-turn-lower : (o p : Option Candidate) → turnOf (lowerOf o p) ≡ lowerTurn (turnOf o) (turnOf p)
+pub turn-lower : (o p : Option Candidate) → turnOf (lowerOf o p) ≡ lowerTurn (turnOf o) (turnOf p)
 turn-lower none p = refl
 turn-lower (some c) none = refl
 turn-lower (some c) (some d) = go (leb (c .row .rank) (d .row .rank))
@@ -66,11 +60,11 @@ turn-lower (some c) (some d) = go (leb (c .row .rank) (d .row .rank))
     go true = refl
     go false = refl
 
-turn-one : (place : ℕ) (o : Option Row) → turnOf (lowestRank (candidateAt place o)) ≡ turnAt place o
+pub turn-one : (place : ℕ) (o : Option Row) → turnOf (lowestRank (candidateAt place o)) ≡ turnAt place o
 turn-one place none = refl
 turn-one place (some row) = refl
 
-lower-assoc : (a b c : Turn) → lowerTurn a (lowerTurn b c) ≡ lowerTurn (lowerTurn a b) c
+pub lower-assoc : (a b c : Turn) → lowerTurn a (lowerTurn b c) ≡ lowerTurn (lowerTurn a b) c
 lower-assoc Stop b c = refl
 lower-assoc (Merge p s k) Stop c = refl
 lower-assoc (Merge p s k) (Merge q t m) Stop = go (leb k m)
@@ -136,24 +130,24 @@ module _ (row : ℕ → ℕ → Option Row) (ids : List ℕ) where
 -- ---- the best so far as numbers: its rank, its place and its row
 
 -- More than any rank, where there is none.
-abbrev noRank : ℕ
+abbrev pub noRank : ℕ
 noRank = 4294967296
 
-abbrev bestTurn : List ℕ → ℕ → ℕ → ℕ → Turn
+abbrev pub bestTurn : List ℕ → ℕ → ℕ → ℕ → Turn
 bestTurn result rank place row = cond (ltb rank noRank) (Merge place (getD result row 0) rank) Stop
 
-best-some : (result : List ℕ) (rank place row : ℕ) → rank < noRank → bestTurn result rank place row ≡ Merge place (getD result row 0) rank
+pub best-some : (result : List ℕ) (rank place row : ℕ) → rank < noRank → bestTurn result rank place row ≡ Merge place (getD result row 0) rank
 best-some result rank place row h = rw (lt-ltb rank noRank h)
 
 module _ (result : List ℕ) (best place row p n k : ℕ) (small : k < noRank) where
-  lower-taken : k < best → lowerTurn (bestTurn result best place row) (Merge p n k) ≡ Merge p n k
+  pub lower-taken : k < best → lowerTurn (bestTurn result best place row) (Merge p n k) ≡ Merge p n k
   lower-taken l = go (ltb best noRank)
     where
       go : (b : Bool) → lowerTurn (cond b (Merge place (getD result row 0) best) Stop) (Merge p n k) ≡ Merge p n k
       go true = rw (lt-leb best k l)
       go false = refl
 
-  lower-kept : best ≤ k → lowerTurn (bestTurn result best place row) (Merge p n k) ≡ bestTurn result best place row
+  pub lower-kept : best ≤ k → lowerTurn (bestTurn result best place row) (Merge p n k) ≡ bestTurn result best place row
   lower-kept l = rw (lt-ltb best noRank (omega arith)) (rw (le-leb best k l))
 
 -- These numbers are what the pairs before p give.
@@ -201,7 +195,7 @@ module _ (left right result rank rowIndex : List ℕ) (shift : ℕ) (ids : List 
 -- ---- one merge in place
 
 -- What follows a place moves one cell to the left.
-abbrev shifted : List ℕ → ℕ → List ℕ
+abbrev pub shifted : List ℕ → ℕ → List ℕ
 shifted start place = take (place + 1) start ++ drop (place + 2) start
 
 -- The cells before at are as they will be, those from next on as they were at the start.

@@ -1,3 +1,4 @@
 -- What only the inner functions' contracts need.
 pub mod Laid
 pub mod Turns
+pub mod Keys

@@ -1,4 +1,5 @@
 // The starting ids of a unit and their ranked merge.
+mod kept;
 pub mod ranked;
 pub mod start;
 

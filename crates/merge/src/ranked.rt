@@ -1,5 +1,10 @@
-// The plain ranked merge, in place.
+// The ranked merge, in place.
 use crate::Turn;
+use crate::kept::LONG;
+use crate::kept::ROW_SPAN;
+use crate::kept::SHORT;
+use crate::kept::merge_long;
+use crate::kept::merge_short;
 use index::find_row_from;
 use model::Found;
 use model::tables::lesser;
@@ -12,7 +17,7 @@ ghost use Rattle.merge.specs.Merge.{nextMerge};
 ghost use Rattle.merge.specs.inner.Turns.{rowIn, turnOf, joinedAt, Merged, mergedFront};
 
 // More than any rank.
-const NO_RANK: usize = 4294967296;
+pub(crate) const NO_RANK: usize = 4294967296;
 
 // The next merge among adjacent ids: the lowest rank, the leftmost of equals.
 fn next_merge(
@@ -63,7 +68,7 @@ fn next_merge(
 }
 
 // Puts `result` in the place of a pair: what follows moves one cell to the left, and the last becomes zero.
-fn merge_at(ids: &mut [u32], place: usize, result: u32)
+pub(crate) fn merge_at(ids: &mut [u32], place: usize, result: u32)
     requires { ⌜ place + 2 ≤ length (now ids) ⌝ }
     ensures { λ _. ⌜ now (ids .exit) ≡ joinedAt place result (now (ids .entry)) ⌝ }
 {
@@ -78,8 +83,8 @@ fn merge_at(ids: &mut [u32], place: usize, result: u32)
     ids[at] = 0;
 }
 
-// Merges the first `count` ids in place until no pair has a row, and answers how many are left.
-pub fn bpe_merge_symbols_ranked(
+// Merges the first `count` ids, with all pairs looked up for each merge.
+fn merge_scanned(
     left: &[u32],
     right: &[u32],
     result: &[u32],
@@ -107,4 +112,30 @@ pub fn bpe_merge_symbols_ranked(
             }
         }
     }
+}
+
+// Merges the first `count` ids in place until no pair has a row, and answers how many are left.
+pub fn bpe_merge_symbols_ranked(
+    left: &[u32],
+    right: &[u32],
+    result: &[u32],
+    rank: &[u32],
+    row_index: &[u32],
+    shift: u32,
+    ids: &mut [u32],
+    count: usize,
+) -> usize
+    ensures { λ n. ⌜ _≡_ {A = Merged} (record { count = n; ids = now (ids .exit) }) (mergedFront (rowIn (now (left .entry)) (now (right .entry)) (now (result .entry)) (now (rank .entry)) (now («row_index» .entry)) shift) count (now (ids .entry))) ⌝ }
+{
+    if ROW_SPAN < left.len() {
+        return merge_scanned(left, right, result, rank, row_index, shift, ids, count);
+    }
+    let n = lesser(count, ids.len());
+    if n <= SHORT {
+        return merge_short(left, right, result, rank, row_index, shift, ids, n);
+    }
+    if n <= LONG {
+        return merge_long(left, right, result, rank, row_index, shift, ids, n);
+    }
+    merge_scanned(left, right, result, rank, row_index, shift, ids, count)
 }

@@ -1,111 +1,85 @@
--- `merge::ranked::bpe_merge_symbols_ranked` meets its contract. The loop's invariant: the `n` ids that are left merge to what the first
--- ones merge to.
-use native.Mathlib.Omega.{arith}
-use mathlib.Core.Path.{sym}
+-- `merge::ranked::bpe_merge_symbols_ranked` meets its contract.
 use borrow.Author.Needs.{needs}
-use lib.ListN.{take}
-use lib.Seq.{length-take-le}
-use Rattle.merge.specs.Merge.{nextMerge}
-use Rattle.merge.specs.inner.Turns.{rowIn}
-use Rattle.merge.proofs.FrontLaws.{Picked, picked, stopped, Merging, merging-start, merging-fits, merging-inside, merging-some, merging-next, merging-ended}
+use Rattle.merge.proofs.FrontLaws.{front-counted}
+use mathlib.Core.Path.{_≡_, _∙_}
+use native.Mathlib.Omega.{arith}
+use Rattle.merge.specs.inner.Turns.{rowIn, mergedFront}
 use Rattle.merge.proofs.ranked.bpe_merge_symbols_ranked.Statement.{statement}
 use Rattle.merge.proofs.ranked.bpe_merge_symbols_ranked.Tie as tie
 
-abbrev Inv-loop : tie.InvT-loop
-Inv-loop left right result rank row-index shift ids₀ count n₀ ids n = Merging (rowIn left right result rank row-index shift) n₀ ids₀ ids n
+abbrev start : tie.Else1 → tie.Start
+start e = e .before .before .before .before .before .before .before
 
-abbrev μ-loop : tie.MeasureT-loop
-μ-loop left right result rank row-index shift ids₀ count n₀ ids n = n
+-- As many ids as the buffer has room for.
+all : (l : tie.After-lesser)
+    → let s = start (l .before) .args in let row = rowIn (s .left .now) (s .right .now) (s .result .now) (s .rank .now) (s .row-index .now) (s .shift) in mergedFront row (l .lesser .result) (s .ids .now) ≡ mergedFront row (s .count) (s .ids .now)
+all l =
+    let s = start (l .before) .args in
+    front-counted (rowIn (s .left .now) (s .right .now) (s .result .now) (s .rank .now) (s .row-index .now) (s .shift)) (l .lesser .result) (s .count) (s .ids .now) (l .lesser .ensures)
 
-abbrev start : tie.After-lesser Inv-loop μ-loop → tie.Start Inv-loop μ-loop
-start f = f .before .before .before .before .before .before .before
+merge-scanned-requires : tie.Need-merge-scanned-requires
+merge-scanned-requires c κs = search needs
 
-abbrev loop : tie.After-place Inv-loop μ-loop → tie.At-loop Inv-loop μ-loop
-loop p = p .before .before .before .before
+same-length : tie.Need-same-length
+same-length c = search needs
 
--- The pair that is merged next.
-pick : (p : tie.After-place Inv-loop μ-loop)
-    → Picked (nextMerge (rowIn (start (loop p .before) .args .left .now) (start (loop p .before) .args .right .now) (start (loop p .before) .args .result .now) (start (loop p .before) .args .rank .now) (start (loop p .before) .args .row-index .now) (start (loop p .before) .args .shift)) (take (loop p .loop .n) (loop p .loop .ids)))
-    (p .place .given .0 .0) (p .place .given .0 .1 .0)
-pick p = picked _ (p .before .before .next-merge .ensures) (p .place .given .1)
+returns : tie.Need-returns
+returns c = search needs
 
-lesser-requires : tie.Need-lesser-requires Inv-loop μ-loop
+lesser-requires : tie.Need-lesser-requires
 lesser-requires c κs = search needs
 
-loop-holds : tie.Need-loop-holds Inv-loop μ-loop
-loop-holds c =
-    let st = start c .args in
-    merging-start (rowIn (st .left .now) (st .right .now) (st .result .now) (st .rank .now) (st .row-index .now) (st .shift)) (c .lesser .result) (st .ids .now) (omega (arith, c .lesser .ensures))
+merge-short-requires : tie.Need-merge-short-requires
+merge-short-requires c κs =
+    let t = c .before in
+    let l = t .before in
+    (l .before .if1 .left, (omega (arith, l .lesser .ensures), t .if2 .taken))
 
-slice-reshare-prefix-next-merge : tie.Need-slice-reshare-prefix-next-merge Inv-loop μ-loop
-slice-reshare-prefix-next-merge c = merging-fits (c .loop .inv)
+same-length-2 : tie.Need-same-length-2
+same-length-2 c = search needs
 
-slice-aggregate-next-merge : tie.Need-slice-aggregate-next-merge Inv-loop μ-loop
-slice-aggregate-next-merge c =
-    let a = c .before in
-    sym (length-take-le (a .loop .n) (a .loop .ids) (merging-fits (a .loop .inv)))
+returns-2 : tie.Need-returns-2
+returns-2 c =
+    let m = c .before .before in
+    m .merge-short .ensures ∙ all (m .before .before .before)
 
-next-merge-requires : tie.Need-next-merge-requires Inv-loop μ-loop
-next-merge-requires c κs = search needs
+merge-long-requires : tie.Need-merge-long-requires
+merge-long-requires c κs =
+    let t = c .before in
+    let l = t .before .before in
+    (l .before .if1 .left, (omega (arith, l .lesser .ensures), t .if3 .taken))
 
-enum-told : tie.Need-enum-told Inv-loop μ-loop
-enum-told c = search needs
+same-length-3 : tie.Need-same-length-3
+same-length-3 c = search needs
 
-same-length : tie.Need-same-length Inv-loop μ-loop
-same-length c = c .before .before .before .before .loop .inv .size
+returns-3 : tie.Need-returns-3
+returns-3 c =
+    let m = c .before .before in
+    m .merge-long .ensures ∙ all (m .before .before .before .before)
 
-returns : tie.Need-returns Inv-loop μ-loop
-returns c =
-    let a = c .before .before .before .before in
-    merging-ended (a .loop .inv) (start (a .before) .args .count) (a .before .lesser .ensures) (stopped _ (c .before .before .next-merge .ensures) (c .enum-told .given .1))
+merge-scanned-requires-2 : tie.Need-merge-scanned-requires-2
+merge-scanned-requires-2 c κs = search needs
 
-enum-known-place : tie.Need-enum-known-place Inv-loop μ-loop
-enum-known-place c = search needs
+same-length-4 : tie.Need-same-length-4
+same-length-4 c = search needs
 
-slice-relend-prefix-merge-at : tie.Need-slice-relend-prefix-merge-at Inv-loop μ-loop
-slice-relend-prefix-merge-at c = merging-fits (loop (c .before) .loop .inv)
-
-slice-aggregate-merge-at : tie.Need-slice-aggregate-merge-at Inv-loop μ-loop
-slice-aggregate-merge-at c =
-    let a = loop (c .before .before) in
-    sym (length-take-le (a .loop .n) (a .loop .ids) (merging-fits (a .loop .inv)))
-
-merge-at-requires : tie.Need-merge-at-requires Inv-loop μ-loop
-merge-at-requires c κs = merging-inside (loop (c .before .before) .loop .inv) (pick (c .before .before))
-
-sub-n : tie.Need-sub-n Inv-loop μ-loop
-sub-n c =
-    let p = c .before .before .before .before .before in
-    omega (arith, merging-some (loop p .loop .inv) (pick p))
-
-loop-less : tie.Need-loop-less Inv-loop μ-loop
-loop-less c =
-    let p = c .before .before .before .before .before in
-    omega (arith, merging-some (loop p .loop .inv) (pick p))
-
-loop-again : tie.Need-loop-again Inv-loop μ-loop
-loop-again c =
-    let p = c .before .before .before .before .before in
-    merging-next (loop p .loop .inv) (pick p) (rw (c .before .before .merge-at .ensures))
+returns-4 : tie.Need-returns-4
+returns-4 c = search needs
 
 pub bpe-merge-symbols-ranked-spec : {M : Type 1} → statement M
 bpe-merge-symbols-ranked-spec =
     tie.close
     (tie.spec
-    Inv-loop
-    μ-loop
-    lesser-requires
-    loop-holds
-    slice-reshare-prefix-next-merge
-    slice-aggregate-next-merge
-    next-merge-requires
-    enum-told
+    merge-scanned-requires
     same-length
     returns
-    enum-known-place
-    slice-relend-prefix-merge-at
-    slice-aggregate-merge-at
-    merge-at-requires
-    sub-n
-    loop-less
-    loop-again)
+    lesser-requires
+    merge-short-requires
+    same-length-2
+    returns-2
+    merge-long-requires
+    same-length-3
+    returns-3
+    merge-scanned-requires-2
+    same-length-4
+    returns-4)
