@@ -104,7 +104,7 @@ extern "C" {
 
 /* How many words varitmol_prepare derives: of the byte neighbours, and of the index. */
 #define VARITMOL_ADJACENCY_LEN 1024
-#define VARITMOL_INDEX_LEN 136008
+#define VARITMOL_INDEX_LEN 136264
 
 /* The answer's number: 0, or the lowest of the others that applies. Every call tests 1 to 8 over the whole model, save the twins: of these
  * eight they give 1 alone, for a text or list of ids that is too long and for steps or metaspace that are no such numbers.

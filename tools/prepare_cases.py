@@ -13,8 +13,8 @@ from complaints import run
 
 MARK = "▁"
 TURNING = ("replace", " ", MARK)
-ADJACENCY, INDEX = 1024, 136008
-SLOTS, SHARED = 131072, 2 ** 31
+ADJACENCY, INDEX = 1024, 136264
+SLOTS, SHARED, NONE = 131072, 2 ** 31, 2 ** 32 - 1
 
 T_PIECES = [b"\xe2\x96\x81", b"a", b"b", b"ab", b"\xe2\x96\x81a", b".", b"\xc3", b"\xa9"]
 T = {"pieces": T_PIECES, "rows": [(0, 1, 4, 1), (1, 2, 3, 0)], "fallback": {0xC3: 6, 0xA9: 7},
@@ -124,10 +124,11 @@ def index(m):
     kind = kind_number(m)
     noted = list(crossings(pieces)) if kind == 0 else []
     words = [word for id, place, _, _ in noted for word in (id, place)]
-    mark = [id for id in lookup if pieces[id] == MARK.encode()]
+    ids = {pieces[id]: id for id in lookup}
     shift = next(s for s in range(8) if s == 7 or len(pieces) <= 4096 << s)
-    return [kind, raw_path_number(m), len(noted), *words, *[0] * (64 - len(words)), mark[0] if mark else 2 ** 32 - 1, shift,
+    return [kind, raw_path_number(m), len(noted), *words, *[0] * (64 - len(words)), ids.get(MARK.encode(), NONE), shift,
             *[sum(pieces[id][0] < b for id in lookup) for b in range(257)],
+            *[ids.get(bytes([b]), NONE) for b in range(256)],
             *[sum(left < b << shift for left, *_ in m["rows"]) for b in range(4097)], *pair_table(m),
             *begun(m["first"]), *begun(m["second"]), max((len(c.encode()) for c in m["first"]), default=0)]
 

@@ -30,7 +30,7 @@ use Rattle.merge.specs.declared.Symbols.{Symbols}
 use Rattle.merge.proofs.Laying.{laid-fits}
 use Rattle.merge.proofs.ModelLaws.{ownBy, rowBy}
 use Rattle.prepare.specs.Prepare.{derivedAdjacency, derivedIndex}
-use Rattle.prepare.proofs.ReadLaws.{kind-read, count-read, crossings-at, mark-at, shift-at, first-bytes-at, row-index-at}
+use Rattle.prepare.proofs.ReadLaws.{kind-read, count-read, crossings-at, mark-at, shift-at, piece-index-at, row-index-at}
 use Rattle.sections.specs.Sections.{Item, token, plain, takenApart, Section, bytesOf}
 use Rattle.encode.specs.Parts.{Stretch, virtualMark, stretch, rawStretch}
 use Rattle.encode.specs.Encode.{idsOf, startsOf, dropsOf, held}
@@ -108,11 +108,11 @@ module _ (m : Model) (fine : checkNumber m ≡ 0) where
 
   pub own-derived : ownIn (derivedIndex m) (m .pieceBytes) (m .pieceOffsets) (m .lookup) ≡ ownBy m ok
   unfolding ownIn
-  own-derived = ap₂ (ownFound (m .pieceBytes) (m .pieceOffsets) (m .lookup)) (read 69 326 (first-bytes-at m)) (mark-at m)
+  own-derived = ap₂ (ownFound (m .pieceBytes) (m .pieceOffsets) (m .lookup)) (read 69 582 (piece-index-at m)) (mark-at m)
 
   pub rows-derived : rowsIn (tablesOf m) ≡ rowBy m ok
   unfolding rowsIn
-  rows-derived = ap₂ (rowIn (m .left) (m .right) (m .result) (m .rank)) (read 326 135495 (row-index-at m)) (shift-at m)
+  rows-derived = ap₂ (rowIn (m .left) (m .right) (m .result) (m .rank)) (read 582 135751 (row-index-at m)) (shift-at m)
 
   pub cuts-derived : (raw : Bool) (bytes : List ℕ) → cutsIn (tablesOf m) raw bytes ≡ cutsBy m fine raw bytes
   unfolding cutsIn derivedAdjacency piecesOf

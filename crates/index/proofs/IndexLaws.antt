@@ -4,7 +4,7 @@ use mathlib.Core.Bool.{Bool, true, false, cond, _&&_}
 use mathlib.Core.List.{List, [], _∷_}
 use mathlib.Core.Option.{Option, none, some}
 use Prim.Native.Nat.{ℕ, _+_, _*_, _/_, _^_, _≤_, _<_, min}
-use native.Mathlib.Nat.{not-suc-le-zero, min-eq-left, le-refl, zero-add, div-mul-le-self, div-lt-iff-lt-mul, mul-le-mul-right}
+use native.Mathlib.Nat.{not-suc-le-zero, min-eq-left, zero-add, div-mul-le-self, div-lt-iff-lt-mul, mul-le-mul-right}
 use native.Mathlib.Omega.{arith}
 use borrow.Author.Tests.{ltb-true, ltb-false, leb-false, eqb-true, lt-ltb, le-ltb, eq-eqb, ne-eqb}
 use lib.Dec.{ltb, leb, eqb}
@@ -13,7 +13,7 @@ use lib.ListN.{length, getD, List·getD-append}
 use lib.Seq.{getD-append-add}
 use Rattle.utf8.specs.Lists.{isEmpty, any, find, same, takeWhile, below}
 use Rattle.utf8.proofs.Tests.{clash, and-left, and-right, or-left, or-right}
-use Rattle.utf8.proofs.Places.{any-one, all-holds, getD-countFrom}
+use Rattle.utf8.proofs.Places.{all-holds, getD-countFrom}
 use Rattle.utf8.proofs.Fronts.{front-within, front-passes, front-ended, front-past, getD-row, length-row}
 use Rattle.model.specs.Model.{Model, piece, lookupId, noId, piecesOf, mergeRows, rowOf}
 use Rattle.model.specs.Mark.{mark}
@@ -23,14 +23,14 @@ use Rattle.model.specs.Check.{namesNoPiece, lookupAscends, rowsAscend, allBelow
 use Rattle.model.specs.declared.Order.the-variants.{Less, Greater}
 use Rattle.model.specs.declared.Found.{Found}
 use Rattle.model.specs.declared.Found.the-variants.{At, Nothing}
-use Rattle.model.proofs.OrderLaws.{isEqual, by-below, by-numbers, or-less, or-greater, or-else, never, equal-is, same-is-equal, equal-strings, order-turned, turned}
+use Rattle.model.proofs.OrderLaws.{isEqual, by-below, or-less, or-greater, never, equal-is, same-is-equal, equal-strings, order-turned, turned}
 use Rattle.model.proofs.SearchLaws.{found-below, found-equal, equal-found, part-searched}
-use Rattle.model.proofs.LookupLaws.{no-piece, entries-rise, pieces-fall, id-found}
+use Rattle.model.proofs.LookupLaws.{entries-rise, pieces-fall, id-found}
 use Rattle.model.proofs.RowLaws.{lefts-rise, rows-fall, pair-is-equal, row-found}
 use Rattle.model.proofs.StringLaws.{length-strings}
 use Rattle.model.proofs.Accepted.{Accepted}
-use Rattle.index.specs.Index.{firstByteStart, firstBytes, idOr, markId, bucketShift, bucketStart, bucketWords, buckets, slotCount, pairSlot, slotRows, slotWord, shared, pairWords, rowIndex}
-use Rattle.index.specs.inner.Find.{idOf, keyStart, keyEnd, idFrom, rowBetween, pairWord, namedRow, rowHas, rowBy, rowFrom}
+use Rattle.index.specs.Index.{firstByteStart, firstByteWords, firstBytes, idOr, keyId, markId, byteId, byteIds, pieceIndex, bucketShift, bucketStart, bucketWords, buckets, slotCount, pairSlot, slotRows, slotWord, shared, pairWords, rowIndex}
+use Rattle.index.specs.inner.Find.{idOf, keyStart, keyEnd, byteWord, idFrom, rowBetween, pairWord, namedRow, rowHas, rowBy, rowFrom}
 use Rattle.index.proofs.PairLaws.{Says, nothing, alone, several, slot-says, slot-below, names-alone, names-several}
 
 -- ---- ids as numbers
@@ -61,14 +61,14 @@ module _ (pieces : List (List ℕ)) (lookup : List ℕ) (named : any (namesNoPie
       leb-false (length pieces) id
       (or-left (leb (length pieces) id) (isEmpty (piece pieces id)) (found-fails _ (namesNoPiece pieces) lookup id e named))
 
-  -- The mark's id stands for what the lookup list gives the mark.
-  pub mark-id : length pieces ≤ noId → idOf (markId pieces lookup) ≡ lookupId pieces lookup mark
-  unfolding idOf markId
-  mark-id few = go (lookupId pieces lookup mark) refl
+  -- The id of a key as a number stands for what the lookup list gives the key.
+  pub key-id : length pieces ≤ noId → (key : List ℕ) → idOf (keyId pieces lookup key) ≡ lookupId pieces lookup key
+  unfolding idOf keyId
+  key-id few key = go (lookupId pieces lookup key) refl
     where
-      go : (o : Option ℕ) → lookupId pieces lookup mark ≡ o → idOf (idOr o) ≡ o
+      go : (o : Option ℕ) → lookupId pieces lookup key ≡ o → idOf (idOr o) ≡ o
       go none e = refl
-      go (some id) e = rw (ne-eqb id noId (below (id-below mark id e)))
+      go (some id) e = rw (ne-eqb id noId (below (id-below key id e)))
         where
           below : id < length pieces → id ≡ noId → ⊥
           below h q = omega arith
@@ -88,32 +88,28 @@ first-greater xs ys h = order-turned ys xs ∙ ap turned (first-less ys xs h)
 first-rises : (xs ys : List ℕ) → byteOrder xs ys ≡ Less → getD xs 0 0 ≤ getD ys 0 0
 first-rises xs ys e = by-below (getD ys 0 0) (getD xs 0 0) (λ l. never (sym e ∙ first-greater xs ys l) refl refl) (λ m. m)
 
--- Behind a string that is not empty and has no lower first byte than a string of one byte, only greater ones stand.
-past-one : (k : ℕ) (xs ys : List ℕ) → isEmpty xs ≡ false → k ≤ getD xs 0 0 → byteOrder xs ys ≡ Less → byteOrder ys (k ∷ []) ≡ Greater
-past-one k [] ys n h e = clash n refl
-past-one k (x ∷ xs) [] n h e = never (sym e) refl refl
-past-one k (x ∷ xs) (y ∷ ys) n h e =
-    let rises : x ≤ y = first-rises (x ∷ xs) (y ∷ ys) e in
-    by-numbers k y (λ l. or-greater y k (byteOrder ys []) l) (λ g. absurd (omega arith))
-    (λ q. or-else y k (byteOrder ys []) (sym q) ∙ longer ys (sym (or-else x y (byteOrder xs ys) (omega arith)) ∙ e))
-  where
-    longer : (ys : List ℕ) → byteOrder xs ys ≡ Less → byteOrder ys [] ≡ Greater
-    longer [] l = none-less xs l
-      where
-        none-less : (xs : List ℕ) → byteOrder xs [] ≡ Less → byteOrder [] [] ≡ Greater
-        none-less [] l = never (sym l) refl refl
-        none-less (x ∷ xs) l = never (sym l) refl refl
-    longer (y ∷ ys) l = refl
-
 one-byte : (key : List ℕ) → length key ≡ 1 → key ≡ getD key 0 0 ∷ []
 one-byte [] e = absurd (omega arith)
 one-byte (x ∷ []) e = refl
 one-byte (x ∷ y ∷ ys) e = absurd (omega arith)
 
 module _ (pieces : List (List ℕ)) (lookup : List ℕ) where
-  first-at : (b : ℕ) → b < 257 → getD (firstBytes pieces lookup) b 0 ≡ firstByteStart pieces lookup b
+  length-firstBytes : length (firstBytes pieces lookup) ≡ firstByteWords
   unfolding firstBytes
-  first-at b h = getD-row (firstByteStart pieces lookup) 257 b 0 h
+  length-firstBytes = length-row (firstByteStart pieces lookup) firstByteWords
+
+  first-at : (b : ℕ) → b < firstByteWords → getD (pieceIndex pieces lookup) b 0 ≡ firstByteStart pieces lookup b
+  unfolding pieceIndex firstBytes
+  first-at b h =
+      List·getD-append (firstBytes pieces lookup) (byteIds pieces lookup) 0 b (omega (arith, length-firstBytes))
+      ∙ getD-row (firstByteStart pieces lookup) firstByteWords b 0 h
+
+  byte-at : (b : ℕ) → b < 256 → byteWord (pieceIndex pieces lookup) b ≡ byteId pieces lookup b
+  unfolding byteWord pieceIndex byteIds
+  byte-at b h =
+      ap (λ (n : ℕ). getD (pieceIndex pieces lookup) (n + b) 0) (sym length-firstBytes)
+      ∙ getD-append-add (firstBytes pieces lookup) (byteIds pieces lookup) b 0
+      ∙ getD-row (byteId pieces lookup) 256 b 0 h
 
   first-within : (b : ℕ) → firstByteStart pieces lookup b ≤ length lookup
   unfolding firstByteStart
@@ -138,62 +134,43 @@ module _ (pieces : List (List ℕ)) (lookup : List ℕ) where
         lt-ltb (getD (entry j) 0 0) b (omega (arith, ltb-true (getD (entry i) 0 0) b e)))
         h k)
 
-    module _ (named : any (namesNoPiece pieces) lookup ≡ false) (key : List ℕ) (byte : getD key 0 0 < 256) where
-      start-is : keyStart (firstBytes pieces lookup) key ≡ firstByteStart pieces lookup (getD key 0 0)
+    module _ (key : List ℕ) (byte : getD key 0 0 < 256) where
+      start-is : keyStart (pieceIndex pieces lookup) key ≡ firstByteStart pieces lookup (getD key 0 0)
       unfolding keyStart
       start-is = first-at (getD key 0 0) (omega arith)
 
-      end-one : eqb (length key) 1 ≡ true → keyEnd (firstBytes pieces lookup) key ≡ keyStart (firstBytes pieces lookup) key + 1
+      end-is : keyEnd (pieceIndex pieces lookup) key ≡ firstByteStart pieces lookup (getD key 0 0 + 1)
       unfolding keyEnd
-      end-one e = rw e
+      end-is = first-at (getD key 0 0 + 1) (omega arith)
 
-      end-more : eqb (length key) 1 ≡ false → keyEnd (firstBytes pieces lookup) key ≡ firstByteStart pieces lookup (getD key 0 0 + 1)
-      unfolding keyEnd
-      end-more e = rw e (first-at (getD key 0 0 + 1) (omega arith))
-
-      -- no entry has an empty piece
-      full : (i : ℕ) → i < length lookup → isEmpty (entry i) ≡ false
-      full i h = go (isEmpty (entry i)) refl
-        where
-          go : (b : Bool) → isEmpty (entry i) ≡ b → isEmpty (entry i) ≡ false
-          go true e = clash named (any-one (namesNoPiece pieces) lookup i 0 h (no-piece pieces (getD lookup i 0) ∙ e))
-          go false e = e
-
-      before-key : (i : ℕ) → i < keyStart (firstBytes pieces lookup) key → i < length lookup → pieceOrder pieces lookup key i ≡ Less
+      before-key : (i : ℕ) → i < keyStart (pieceIndex pieces lookup) key → i < length lookup → pieceOrder pieces lookup key i ≡ Less
       unfolding pieceOrder
       before-key i h k = first-less (entry i) key (first-before (getD key 0 0) i (omega (arith, start-is)))
 
-      behind-key : (i : ℕ) → keyEnd (firstBytes pieces lookup) key ≤ i → i < length lookup → pieceOrder pieces lookup key i ≡ Greater
+      behind-key : (i : ℕ) → keyEnd (pieceIndex pieces lookup) key ≤ i → i < length lookup → pieceOrder pieces lookup key i ≡ Greater
       unfolding pieceOrder
-      behind-key i h k′ = go (eqb (length key) 1) refl
-        where
-          go : (b : Bool) → eqb (length key) 1 ≡ b → byteOrder (entry i) key ≡ Greater
-          go true e =
-              let k = getD key 0 0 in
-              let j = firstByteStart pieces lookup k in
-              let l : j < i = omega (arith, start-is, end-one e) in
-              ap (byteOrder (entry i)) (one-byte key (eqb-true (length key) 1 e))
-              ∙ past-one k (entry j) (entry i) (full j (omega arith)) (first-from k j (le-refl j) (omega arith)) (entries-rise pieces lookup ascends j i l k′)
-          go false e = first-greater (entry i) key (omega (arith, first-from (getD key 0 0 + 1) i (omega (arith, end-more e)) k′))
+      behind-key i h k = first-greater (entry i) key (omega (arith, first-from (getD key 0 0 + 1) i (omega (arith, end-is)) k))
 
       -- A search among the entries of the key's first byte ends as one in the whole list does.
-      pub key-searched : searched (pieceOrder pieces lookup key) (keyStart (firstBytes pieces lookup) key) (min (keyEnd (firstBytes pieces lookup) key) (length lookup)) ≡ foundPiece pieces lookup key
+      key-searched : searched (pieceOrder pieces lookup key) (keyStart (pieceIndex pieces lookup) key) (min (keyEnd (pieceIndex pieces lookup) key) (length lookup)) ≡ foundPiece pieces lookup key
       unfolding foundPiece
       key-searched =
           part-searched (pieceOrder pieces lookup key) (length lookup) (pieces-fall pieces lookup ascends key) _ _ (omega arith) before-key
           (λ i h k. behind-key i (omega arith) k)
 
-      key-found : idAt lookup (searched (pieceOrder pieces lookup key) (keyStart (firstBytes pieces lookup) key) (min (keyEnd (firstBytes pieces lookup) key) (length lookup))) ≡ lookupId pieces lookup key
+      key-found : idAt lookup (searched (pieceOrder pieces lookup key) (keyStart (pieceIndex pieces lookup) key) (min (keyEnd (pieceIndex pieces lookup) key) (length lookup))) ≡ lookupId pieces lookup key
       key-found = ap (idAt lookup) key-searched ∙ id-found pieces lookup ascends key
 
-      -- By first bytes and the mark's id a key has the id that the lookup list gives it.
-      pub id-from : length pieces ≤ noId → idFrom pieces lookup (firstBytes pieces lookup) (markId pieces lookup) key ≡ lookupId pieces lookup key
-      unfolding idFrom
-      id-from few = go (same key mark) refl
+      -- By first bytes, the ids of single bytes and the mark's id a key has the id that the lookup list gives it.
+      pub id-from : any (namesNoPiece pieces) lookup ≡ false → length pieces ≤ noId → idFrom pieces lookup (pieceIndex pieces lookup) (markId pieces lookup) key ≡ lookupId pieces lookup key
+      unfolding idFrom markId byteId
+      id-from named few = go (eqb (length key) 1) (same key mark) refl refl
         where
-          go : (b : Bool) → same key mark ≡ b → idFrom pieces lookup (firstBytes pieces lookup) (markId pieces lookup) key ≡ lookupId pieces lookup key
-          go true e = rw e (mark-id pieces lookup named few ∙ ap (lookupId pieces lookup) (sym (same-strings key mark e)))
-          go false e = rw e key-found
+          go : (one marks : Bool) → eqb (length key) 1 ≡ one → same key mark ≡ marks → idFrom pieces lookup (pieceIndex pieces lookup) (markId pieces lookup) key ≡ lookupId pieces lookup key
+          go true marks e f =
+              rw (e, byte-at (getD key 0 0) byte) (key-id pieces lookup named few (getD key 0 0 ∷ []) ∙ ap (lookupId pieces lookup) (sym (one-byte key (eqb-true (length key) 1 e))))
+          go false true e f = rw (e, f) (key-id pieces lookup named few mark ∙ ap (lookupId pieces lookup) (sym (same-strings key mark f)))
+          go false false e f = rw (e, f) key-found
 
 -- ---- buckets of left ids
 
@@ -338,6 +315,13 @@ module _ (left : List ℕ) (shift : ℕ) where
 
 -- ---- on any tables
 
+-- A key that is neither one byte nor the mark has the id of the entry that is found among those of its first byte.
+pub id-searched : (pieces : List (List ℕ)) (lookup firstBytes : List ℕ) (markId : ℕ) (key : List ℕ) {marks : Bool} {from to : ℕ} {found : Found} → (length key ≡ 1 → ⊥)
+    → marks ≡ same key mark → marks ≡ false → from ≡ keyStart firstBytes key → to ≡ keyEnd firstBytes key → found ≡ searched (pieceOrder pieces lookup key) from (min to (length lookup))
+    → idFrom pieces lookup firstBytes markId key ≡ idAt lookup found
+unfolding idFrom
+id-searched pieces lookup firstBytes markId key many told other f t e = rw (ne-eqb (length key) 1 many, ← told, other, e, f, t)
+
 no-place {ℓ} : {A : Type ℓ} {i : ℕ} → Nothing ≡ At i → A
 no-place e = clash refl (ap isAt e)
 
@@ -387,9 +371,9 @@ module _ (m : Model) (ok : Accepted m) where
   unfolding piecesOf
   pieces-few = omega (arith, length-strings (m .pieceBytes) (m .pieceOffsets), ok .sizes .pieceLimit)
 
-  -- The id that is found by first bytes and the mark's id is the lookup list's, for every key of bytes, the empty one too.
-  pub id-by-index : (key : List ℕ) → getD key 0 0 < 256 → idFrom (piecesOf m) (m .lookup) (firstBytes (piecesOf m) (m .lookup)) (markId (piecesOf m) (m .lookup)) key ≡ lookupId (piecesOf m) (m .lookup) key
-  id-by-index key byte = id-from (piecesOf m) (m .lookup) (ok .lookupRises) (ok .lookupNames) key byte (omega (arith, pieces-few))
+  -- The id that is found by what is derived of the lookup list is the list's, for every key of bytes, the empty one too.
+  pub id-by-index : (key : List ℕ) → getD key 0 0 < 256 → idFrom (piecesOf m) (m .lookup) (pieceIndex (piecesOf m) (m .lookup)) (markId (piecesOf m) (m .lookup)) key ≡ lookupId (piecesOf m) (m .lookup) key
+  id-by-index key byte = id-from (piecesOf m) (m .lookup) (ok .lookupRises) key byte (ok .lookupNames) (omega (arith, pieces-few))
 
   -- The place that is found by the index is that which a search among all rows gives, for all pairs.
   pub place-by-index : (l r : ℕ) → rowFrom (m .left) (m .right) (rowIndex (m .left) (m .right) (m .rank) (bucketShift (length (piecesOf m)))) (bucketShift (length (piecesOf m))) l r ≡ foundRow (m .left) (m .right) l r

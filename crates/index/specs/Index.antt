@@ -1,5 +1,6 @@
 -- What is derived of the two sorted tables once, so that a search in them begins near its end: where each first byte begins in the
--- lookup list, the mark's id, where each bucket of left ids begins in the merge rows, and a table that names a row for most pairs.
+-- lookup list, the ids of the mark and of single bytes, where each bucket of left ids begins in the merge rows, and a table that names
+-- a row for most pairs.
 use Prim.Native.Nat.{ℕ, _+_, _*_, _/_, _%_, _^_}
 use mathlib.Core.Bool.{cond}
 use mathlib.Core.List.{List, [], _∷_, _++_, map}
@@ -15,17 +16,34 @@ unfoldable pub firstByteStart : List (List ℕ) → List ℕ → ℕ → ℕ
 firstByteStart pieces lookup b = length (takeWhile (λ (id : ℕ). ltb (getD (piece pieces id) 0 0) b) lookup)
 
 -- Where the entries of each byte begin, and at last where they end.
+abbrev pub firstByteWords : ℕ
+firstByteWords = 257
+
 unfoldable pub firstBytes : List (List ℕ) → List ℕ → List ℕ
-firstBytes pieces lookup = map (firstByteStart pieces lookup) (below 257)
+firstBytes pieces lookup = map (firstByteStart pieces lookup) (below firstByteWords)
 
 -- An id as a number, 4,294,967,295 for none.
 abbrev pub idOr : Option ℕ → ℕ
 idOr none = noId
 idOr (some id) = id
 
--- The id that the lookup list gives the mark.
+-- The id that the lookup list gives a key.
+unfoldable pub keyId : List (List ℕ) → List ℕ → List ℕ → ℕ
+keyId pieces lookup key = idOr (lookupId pieces lookup key)
+
 unfoldable pub markId : List (List ℕ) → List ℕ → ℕ
-markId pieces lookup = idOr (lookupId pieces lookup mark)
+markId pieces lookup = keyId pieces lookup mark
+
+unfoldable pub byteId : List (List ℕ) → List ℕ → ℕ → ℕ
+byteId pieces lookup b = keyId pieces lookup (b ∷ [])
+
+-- The ids of the pieces that are one byte alone.
+unfoldable pub byteIds : List (List ℕ) → List ℕ → List ℕ
+byteIds pieces lookup = map (byteId pieces lookup) (below 256)
+
+-- All that is derived of the lookup list, but for the mark's id.
+unfoldable pub pieceIndex : List (List ℕ) → List ℕ → List ℕ
+pieceIndex pieces lookup = firstBytes pieces lookup ++ byteIds pieces lookup
 
 -- A bucket holds 2^shift left ids. The least shift, up to 7, that makes the piece count fit into 4,096 buckets.
 unfoldable pub bucketShift : ℕ → ℕ

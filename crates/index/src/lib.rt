@@ -15,8 +15,10 @@ ghost use Rattle.model.specs.Mark.{mark};
 ghost use Rattle.model.specs.Model.{strings};
 ghost use Rattle.model.specs.inner.Search.{foundId};
 ghost use Rattle.index.specs.Index.{slotCount, pairSlot};
-ghost use Rattle.index.specs.inner.Find.{idOf, keyStart, keyEnd, idFrom, rowBetween, namedRow, rowHas, rowFrom};
+ghost use Rattle.index.specs.inner.Find.{idOf, keyStart, keyEnd, byteWord, idFrom, rowBetween, namedRow, rowHas, rowFrom};
 
+// How many words say where first bytes begin, in the index of the pieces.
+const FIRST_BYTE_WORDS: usize = 257;
 // How many words the buckets take in the index of the rows.
 const BUCKET_WORDS: usize = 4097;
 // What a word of the pair table has more where several rows share its slot.
@@ -60,13 +62,18 @@ fn key_start(first_bytes: &[u32], key: &[u8]) -> usize
 fn key_end(first_bytes: &[u32], key: &[u8]) -> usize
     ensures { λ r. ⌜ r ≡ keyEnd (now («first_bytes» .entry)) (now (key .entry)) ⌝ }
 {
-    if key.len() == 1 {
-        return key_start(first_bytes, key) + 1;
-    }
     wide(number_at(first_bytes, first_byte(key) + 1))
 }
 
-// The id of the piece `key`. `first_bytes` says where the entries of each first byte begin in the lookup list, and `mark_id` is the mark's.
+// The id of the piece that is the byte `b` alone, as a number.
+pub fn byte_id(first_bytes: &[u32], b: u8) -> u32
+    ensures { λ r. ⌜ r ≡ byteWord (now («first_bytes» .entry)) b ⌝ }
+{
+    number_at(first_bytes, FIRST_BYTE_WORDS + b as usize)
+}
+
+// The id of the piece `key`. `first_bytes` says where the entries of each first byte begin in the lookup list, and behind that which id
+// each byte alone has; `mark_id` is the mark's.
 pub fn find_id(
     piece_bytes: &[u8],
     piece_offsets: &[u32],
@@ -77,6 +84,9 @@ pub fn find_id(
 ) -> Found
     ensures { λ r. ⌜ foundId r ≡ idFrom (strings (now («piece_bytes» .entry)) (now («piece_offsets» .entry))) (now (lookup .entry)) (now («first_bytes» .entry)) «mark_id» (now (key .entry)) ⌝ }
 {
+    if key.len() == 1 {
+        return id_of(byte_id(first_bytes, key[0]));
+    }
     if is_mark(key) {
         return id_of(mark_id);
     }

@@ -5,6 +5,7 @@ pub mod PieceLaws
 pub mod Laying
 pub mod StartLaws
 pub mod WalkLaws
+pub mod ByteLaws
 pub mod TurnLaws
 pub mod FrontLaws
 pub mod KeyLaws

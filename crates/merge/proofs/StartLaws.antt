@@ -19,7 +19,7 @@ use Rattle.model.specs.declared.Found.the-variants.{At, Nothing}
 use Rattle.model.specs.Model.{strings, noId, fallbackId}
 use Rattle.model.specs.inner.Search.{searched, pieceOrder, entryAt, idAt, foundId}
 use Rattle.model.specs.Mark.{mark}
-use Rattle.index.specs.inner.Find.{keyStart, keyEnd, idFrom}
+use Rattle.index.specs.inner.Find.{keyStart, keyEnd, byteWord, idFrom}
 use Rattle.index.specs.inner.Find as indexed
 use Rattle.merge.specs.declared.Own.the-variants.{Id, Missing}
 use Rattle.merge.specs.Start.{ifAny, isMissing, fallbackIds, lacksByte}
@@ -29,19 +29,24 @@ use Rattle.merge.proofs.Laying.{Laying, laying-start, laying-one, layin
 -- ---- a character's own id, by what the search gave
 
 -- An id of tables of 32-bit numbers is one.
-pub own-below : (pieces : List (List ℕ)) (lookup firstBytes : List ℕ) (markId : ℕ) (char : List ℕ) {f : Found} {id : ℕ} → markId < 4294967296 → ((i : ℕ) → getD lookup i 0 < 4294967296)
+pub own-below : (pieces : List (List ℕ)) (lookup firstBytes : List ℕ) (markId : ℕ) (char : List ℕ) {f : Found} {id : ℕ} → markId < 4294967296 → ((i : ℕ) → getD lookup i 0 < 4294967296) → ((i : ℕ) → getD firstBytes i 0 < 4294967296)
     → foundId f ≡ idFrom pieces lookup firstBytes markId char → f ≡ At id → id < 4294967296
-unfolding idFrom idAt indexed.idOf
-own-below pieces lookup firstBytes markId char {f} {id} small all told e = go (same char mark) (searched (pieceOrder pieces lookup char) (keyStart firstBytes char) (min (keyEnd firstBytes char) (length lookup))) (sym told ∙ ap foundId e)
+unfolding idFrom idAt indexed.idOf byteWord
+own-below pieces lookup firstBytes markId char {f} {id} small all words told e =
+    go (eqb (length char) 1) (same char mark) (searched (pieceOrder pieces lookup char) (keyStart firstBytes char) (min (keyEnd firstBytes char) (length lookup))) (sym told ∙ ap foundId e)
   where
-    marked : (b : Bool) → cond b none (some markId) ≡ some id → id < 4294967296
-    marked true q = absurd (Option·none-ne-some id q)
-    marked false q = rw (← Option·some-injective markId id q) small
+    word : ℕ
+    word = byteWord firstBytes (getD char 0 0)
 
-    go : (b : Bool) (f : Found) → cond b (cond (eqb markId noId) none (some markId)) (entryAt 0 lookup f) ≡ some id → id < 4294967296
-    go true f q = marked (eqb markId noId) q
-    go false Nothing q = absurd (Option·none-ne-some id q)
-    go false (At i) q = rw (← Option·some-injective (getD lookup i 0) id q) (all i)
+    given : (n : ℕ) → n < 4294967296 → (b : Bool) → cond b none (some n) ≡ some id → id < 4294967296
+    given n h true q = absurd (Option·none-ne-some id q)
+    given n h false q = rw (← Option·some-injective n id q) h
+
+    go : (one marks : Bool) (f : Found) → cond one (cond (eqb word noId) none (some word)) (cond marks (cond (eqb markId noId) none (some markId)) (entryAt 0 lookup f)) ≡ some id → id < 4294967296
+    go true marks f q = given word (words _) (eqb word noId) q
+    go false true f q = given markId small (eqb markId noId) q
+    go false false Nothing q = absurd (Option·none-ne-some id q)
+    go false false (At i) q = given (getD lookup i 0) (all i) false q
 
 module _ (bytes offsets lookup firstBytes : List ℕ) (markId : ℕ) (char : List ℕ) {f : Found} (found : foundId f ≡ idFrom (strings bytes offsets) lookup firstBytes markId char) where
   pub own-at : {id : ℕ} → f ≡ At id → idOf (Id id) ≡ ownFound bytes offsets lookup firstBytes markId char

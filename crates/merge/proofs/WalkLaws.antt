@@ -20,7 +20,7 @@ use Rattle.merge.specs.declared.Own.the-variants.{Id, Missing}
 use Rattle.merge.specs.declared.Symbols.{Symbols}
 use Rattle.merge.specs.Start.{ifAny, isMissing, fallbackIds, lacksByte, startingIdsBy, isDroppedBy, asMark, unitChars}
 use Rattle.merge.specs.inner.Laid.{Laid, idOf, laid, laidIn, charLaid, markedChars, unitLaid, unitSymbols}
-use Rattle.merge.proofs.Laying.{Counted, counted-start, counted-part, counted-ended, Laying, laying-start, laying-part, laying-ended}
+use Rattle.merge.proofs.Laying.{Counted, counted-start, counted-part, counted-ended, Laying, laying-start, laying-part, laying-ended, laying-one, laying-full}
 
 -- ---- one character
 
@@ -198,6 +198,37 @@ walked-next {own} {fallback} {char} {before} {out} {after} {s} {chars} {rest} {n
       drops = drops-on g (dropsOf own fallback chars) rest d (w .drops ∙ rw is);
     }
 
+-- A character that has a piece is its id alone, and no drop.
+module _ (own : List ℕ → Option ℕ) (fallback : List ℕ) {char : List ℕ} {rest whole : List (List ℕ)} {id : ℕ} (is : whole ≡ char ∷ rest) (has : own char ≡ some id) where
+  ids-one : idsOf own fallback whole ≡ id ∷ idsOf own fallback rest
+  unfolding startingIdsBy
+  ids-one = rw (is, has)
+
+  drops-none : dropsOf own fallback whole ≡ dropsOf own fallback rest
+  unfolding isDroppedBy
+  drops-none = rw (is, has)
+
+module _ {own : List ℕ → Option ℕ} {fallback char : List ℕ} {chars rest whole : List (List ℕ)} {room id n d : ℕ} (t : Tallied own fallback chars whole room n d) (is : whole ≡ char ∷ rest) (has : own char ≡ some id) where
+  counted-one : Counted (idsOf own fallback chars) (idsOf own fallback rest) room (n + min 1 (room - n))
+  counted-one = counted-part (id ∷ []) (idsOf own fallback rest) (ids-one own fallback is has) (t .count)
+
+  pub tallied-one : n < room → Tallied own fallback chars rest room (n + 1) d
+  tallied-one h =
+      let one : min 1 (room - n) ≡ 1 = omega arith in
+      record { count = rw one at counted-one; drops = t .drops ∙ rw (drops-none own fallback is has) }
+
+  pub tallied-full : room ≤ n → Tallied own fallback chars rest room n d
+  tallied-full h =
+      let same' : n + min 1 (room - n) ≡ n = omega arith in
+      record { count = rw same' at counted-one; drops = t .drops ∙ rw (drops-none own fallback is has) }
+
+module _ {own : List ℕ → Option ℕ} {fallback char before out : List ℕ} {chars rest whole : List (List ℕ)} {id n d : ℕ} (w : Walked own fallback chars whole before out n d) (is : whole ≡ char ∷ rest) (has : own char ≡ some id) where
+  walked-one : n < length out → Walked own fallback chars rest before (set out n id) (n + 1) d
+  walked-one h = record { laying = laying-one (ids-one own fallback is has) (w .laying) h; drops = w .drops ∙ rw (drops-none own fallback is has) }
+
+  walked-full : length out ≤ n → Walked own fallback chars rest before out n d
+  walked-full h = record { laying = laying-full (ids-one own fallback is has) (w .laying) h; drops = w .drops ∙ rw (drops-none own fallback is has) }
+
 -- From one place of a walk to a later one, wherever it began.
 pub record Onward (own : List ℕ → Option ℕ) (fallback : List ℕ) (rest₀ rest : List (List ℕ)) (out₀ : List ℕ) (n₀ d₀ : ℕ) (out : List ℕ) (n d : ℕ) : Type 0 where
   pub goes : {chars : List (List ℕ)} {before : List ℕ} → Walked own fallback chars rest₀ before out₀ n₀ d₀ → Walked own fallback chars rest before out n d
@@ -210,6 +241,14 @@ pub onward-next : {own : List ℕ → Option ℕ} {fallback char out₀ out afte
     → Given own fallback char (take (length out - n) (drop n out)) after s
     → Onward own fallback rest₀ rest out₀ n₀ d₀ (take n out ++ (after ++ drop (length out - n) (drop n out))) (n + s .count) (d + s .drops)
 onward-next o is g = record { goes = λ w. walked-next (o .goes w) is g }
+
+module _ {own : List ℕ → Option ℕ} {fallback char out₀ out : List ℕ} {rest₀ rest whole : List (List ℕ)} {id n₀ d₀ n d : ℕ}
+    (o : Onward own fallback rest₀ whole out₀ n₀ d₀ out n d) (is : whole ≡ char ∷ rest) (has : own char ≡ some id) where
+  pub onward-one : n < length out → Onward own fallback rest₀ rest out₀ n₀ d₀ (set out n id) (n + 1) d
+  onward-one h = record { goes = λ w. walked-one (o .goes w) is has h }
+
+  pub onward-full : length out ≤ n → Onward own fallback rest₀ rest out₀ n₀ d₀ out n d
+  onward-full h = record { goes = λ w. walked-full (o .goes w) is has h }
 
 module _ (own : List ℕ → Option ℕ) (fallback : List ℕ) (virtual raw : Bool) (unit : List ℕ) where
   -- The virtual mark is the first character, where there is one.

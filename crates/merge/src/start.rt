@@ -1,9 +1,11 @@
 // The starting ids of a unit.
 use crate::Own;
 use crate::Symbols;
+use index::byte_id;
 use index::find_id;
 use model::Found;
 use model::compare::equal;
+use model::fallback::NO_ID;
 use model::fallback::fallback_id;
 use model::mark::MARK;
 use model::tables::lesser;
@@ -13,7 +15,7 @@ ghost use mathlib.Core.Bool.{cond};
 ghost use mathlib.Core.List.{[]};
 ghost use Rattle.model.specs.Mark.{mark};
 ghost use Rattle.merge.specs.Start.{fallbackIds, lacksByte, asMark};
-ghost use Rattle.merge.specs.inner.Laid.{Laid, idOf, ownFound, laidIn, charLaid, markedChars, unitLaid, unitSymbols};
+ghost use Rattle.merge.specs.inner.Laid.{Laid, idOf, ownFound, byteOwn, laidIn, charLaid, markedChars, unitLaid, unitSymbols};
 
 // The id of a character's own piece.
 fn own_id(
@@ -37,6 +39,22 @@ fn own_id(
         Found::At(id) => Own::Id(id as u32),
         Found::Nothing => Own::Missing,
     }
+}
+
+// The id of a byte that is a character by itself, where it has a piece; a raw space is the mark.
+fn own_byte(first_bytes: &[u32], mark_id: u32, raw: bool, b: u8) -> u32
+    ensures { λ r. ⌜ r ≡ byteOwn (now («first_bytes» .entry)) «mark_id» raw b ⌝ }
+{
+    if 0x80 <= b {
+        return NO_ID;
+    }
+    if b != 0x20 {
+        return byte_id(first_bytes, b);
+    }
+    if raw {
+        return mark_id;
+    }
+    byte_id(first_bytes, b)
 }
 
 // The fallback ids that the bytes of a character have, into the front of `out`; one drop where some byte has none.
@@ -208,21 +226,32 @@ pub fn init_symbols(
     let mut drops = first.drops;
     let mut i = 0;
     while i < unit.len() {
-        let next = i + char_step(&unit[i..]);
-        let given = spell_as(
-            piece_bytes,
-            piece_offsets,
-            lookup,
-            fallback,
-            first_bytes,
-            mark_id,
-            &unit[i..next],
-            raw,
-            &mut out[count..],
-        );
-        count += given.count;
-        drops += given.drops;
-        i = next;
+        let id = own_byte(first_bytes, mark_id, raw, unit[i]);
+        if id != NO_ID {
+            if count < out.len() {
+                out[count] = id;
+                count += 1;
+                i += 1;
+            } else {
+                i += 1;
+            }
+        } else {
+            let next = i + char_step(&unit[i..]);
+            let given = spell_as(
+                piece_bytes,
+                piece_offsets,
+                lookup,
+                fallback,
+                first_bytes,
+                mark_id,
+                &unit[i..next],
+                raw,
+                &mut out[count..],
+            );
+            count += given.count;
+            drops += given.drops;
+            i = next;
+        }
     }
     Symbols {
         count: count,
@@ -260,21 +289,31 @@ pub fn count_symbols(
     let mut drops = first.drops;
     let mut i = 0;
     while i < unit.len() {
-        let next = i + char_step(&unit[i..]);
-        let given = spell_as(
-            piece_bytes,
-            piece_offsets,
-            lookup,
-            fallback,
-            first_bytes,
-            mark_id,
-            &unit[i..next],
-            raw,
-            &mut ids,
-        );
-        count += lesser(given.count, room - count);
-        drops += given.drops;
-        i = next;
+        let id = own_byte(first_bytes, mark_id, raw, unit[i]);
+        if id != NO_ID {
+            if count < room {
+                count += 1;
+                i += 1;
+            } else {
+                i += 1;
+            }
+        } else {
+            let next = i + char_step(&unit[i..]);
+            let given = spell_as(
+                piece_bytes,
+                piece_offsets,
+                lookup,
+                fallback,
+                first_bytes,
+                mark_id,
+                &unit[i..next],
+                raw,
+                &mut ids,
+            );
+            count += lesser(given.count, room - count);
+            drops += given.drops;
+            i = next;
+        }
     }
     Symbols {
         count: count,

@@ -7,7 +7,7 @@ use lib.ListN.{length, take, drop, set, length-append, length-drop, take-append-
 use lib.Seq.{take-at, drop-at, drop-drop, drop-append-add, length-take-le}
 use Rattle.utf8.proofs.Fronts.{length-row}
 use Rattle.utf8.proofs.Writing.{Written, written-start, written-byte, written-part, written-length, written-ended}
-use Rattle.index.specs.Index.{firstByteStart, firstBytes, markId, bucketShift, bucketStart, buckets, slotRows, slotWord, pairWords, rowIndex}
+use Rattle.index.specs.Index.{firstByteStart, firstBytes, markId, byteId, byteIds, pieceIndex, bucketShift, bucketStart, buckets, slotRows, slotWord, pairWords, rowIndex}
 use Rattle.sections.specs.Beginnings.{beginnings, longestContent}
 use Rattle.sections.proofs.SeekLaws.{length-beginnings}
 use Rattle.prepare.specs.Layout.{pieceWords, tokenWords, indexRow}
@@ -15,6 +15,10 @@ use Rattle.prepare.specs.Layout.{pieceWords, tokenWords, indexRow}
 pub length-firstBytes : (pieces : List (List ℕ)) (lookup : List ℕ) → length (firstBytes pieces lookup) ≡ 257
 unfolding firstBytes
 length-firstBytes pieces lookup = length-row (firstByteStart pieces lookup) 257
+
+pub length-pieceIndex : (pieces : List (List ℕ)) (lookup : List ℕ) → length (pieceIndex pieces lookup) ≡ 513
+unfolding pieceIndex byteIds
+length-pieceIndex pieces lookup = omega (arith, length-append (firstBytes pieces lookup) (byteIds pieces lookup), length-firstBytes pieces lookup, length-row (byteId pieces lookup) 256)
 
 pub length-buckets : (left : List ℕ) (shift : ℕ) → length (buckets left shift) ≡ 4097
 unfolding buckets
@@ -36,6 +40,24 @@ lent-back a k e xs ys row s h r =
     sym (append-assoc (take a xs) ys (drop k (drop a xs)))
     ∙ ap₂ (λ (y z : List ℕ). take a xs ++ y ++ z) (r ∙ ap row long) (drop-drop k a xs ∙ ap (λ (n : ℕ). drop n xs) s)
 
+-- A row of m words put behind one of n, which stand at the front of a buffer.
+behind-front : (front row : List ℕ) (n m : ℕ) → length front ≡ n → (before written last : List ℕ) → written ≡ front ++ drop n before → last ≡ take n written ++ row ++ drop (n + m) written
+    → last ≡ front ++ row ++ drop (n + m) before
+behind-front front row n m long before written last e f =
+    let behind : drop (n + m) (front ++ drop n before) ≡ drop (n + m) before = ap (λ (k : ℕ). drop (k + m) (front ++ drop n before)) (sym long) ∙ drop-append-add front (drop n before) m ∙ drop-drop m n before in
+    f ∙ rw (e, take-at front (drop n before) n long, behind)
+
+-- ---- what is derived of the lookup list
+
+pub piece-index-filled : (pieces : List (List ℕ)) (lookup before started last : List ℕ) → 582 ≤ length before → started ≡ take 69 before ++ firstBytes pieces lookup ++ drop 326 before
+    → last ≡ take 326 started ++ byteIds pieces lookup ++ drop 582 started → last ≡ take 69 before ++ pieceIndex pieces lookup ++ drop 582 before
+unfolding pieceIndex
+piece-index-filled pieces lookup before started last room e f =
+    let front = take 69 before ++ firstBytes pieces lookup in
+    let long : length front ≡ 326 = omega (arith, length-append (take 69 before) (firstBytes pieces lookup), length-take-le 69 before (omega arith), length-firstBytes pieces lookup) in
+    behind-front front (byteIds pieces lookup) 326 256 long before started last e f
+    ∙ ap (λ (l : List ℕ). l ++ drop 582 before) (append-assoc (take 69 before) (firstBytes pieces lookup) (byteIds pieces lookup))
+
 -- ---- what is derived of pieces and rows
 
 module _ (kind raw count : ℕ) (noted : List ℕ) (pieces : List (List ℕ)) (lookup left right rank : List ℕ) (all-noted : length noted ≡ 64) where
@@ -46,17 +68,17 @@ module _ (kind raw count : ℕ) (noted : List ℕ) (pieces : List (List ℕ)) (l
   shift = bucketShift (length pieces)
 
   abbrev starts : List ℕ
-  starts = firstBytes pieces lookup ++ rowIndex left right rank shift
+  starts = pieceIndex pieces lookup ++ rowIndex left right rank shift
 
-  pub length-pieceWords : length row ≡ 135495
+  pub length-pieceWords : length row ≡ 135751
   unfolding pieceWords
   length-pieceWords =
       omega
-      (arith, length-append noted (markId pieces lookup ∷ shift ∷ starts), length-append (firstBytes pieces lookup) (rowIndex left right rank shift), length-firstBytes pieces lookup, length-rowIndex left right rank shift)
+      (arith, length-append noted (markId pieces lookup ∷ shift ∷ starts), length-append (pieceIndex pieces lookup) (rowIndex left right rank shift), length-pieceIndex pieces lookup, length-rowIndex left right rank shift)
 
   -- ---- its parts written one after the other
 
-  module _ (before : List ℕ) (room : 135495 ≤ length before) where
+  module _ (before : List ℕ) (room : 135751 ≤ length before) where
     fits : length row ≤ length before
     fits = omega (arith, length-pieceWords)
 
@@ -86,41 +108,41 @@ module _ (kind raw count : ℕ) (noted : List ℕ) (pieces : List (List ℕ)) (l
         marked-written : Written row starts before marked 69
         marked-written = rw (mark-is, shift-is) (written-byte fits (written-byte fits crossed-written (record { is = refl })) (record { is = refl }))
 
-        module _ (started : List ℕ) (f : started ≡ take 69 marked ++ firstBytes pieces lookup ++ drop (69 + 257) marked) where
-          started-written : Written row (rowIndex left right rank shift) before started 326
+        module _ (started : List ℕ) (f : started ≡ take 69 marked ++ pieceIndex pieces lookup ++ drop 582 marked) where
+          started-written : Written row (rowIndex left right rank shift) before started 582
           started-written =
-              let long = length-firstBytes pieces lookup in
-              let at : 69 + length (firstBytes pieces lookup) ≡ 326 = omega arith in
-              let step = written-part fits marked-written {part = firstBytes pieces lookup} {rest = rowIndex left right rank shift} (record { is = refl }) in
+              let long = length-pieceIndex pieces lookup in
+              let at : 69 + length (pieceIndex pieces lookup) ≡ 582 = omega arith in
+              let step = written-part fits marked-written {part = pieceIndex pieces lookup} {rest = rowIndex left right rank shift} (record { is = refl }) in
               rw (f, ← at) step
 
           pub started-long : length started ≡ length before
           started-long = written-length fits started-written
 
-          module _ (bucketed : List ℕ) (g : bucketed ≡ take 326 started ++ buckets left by ++ drop (326 + 4097) started) where
-            bucketed-written : Written row (pairWords left right rank) before bucketed 4423
+          module _ (bucketed : List ℕ) (g : bucketed ≡ take 582 started ++ buckets left by ++ drop (582 + 4097) started) where
+            bucketed-written : Written row (pairWords left right rank) before bucketed 4679
             unfolding rowIndex
             bucketed-written =
                 let long = length-buckets left shift in
-                let at : 326 + length (buckets left shift) ≡ 4423 = omega arith in
+                let at : 582 + length (buckets left shift) ≡ 4679 = omega arith in
                 let step = written-part fits started-written {part = buckets left shift} {rest = pairWords left right rank} (record { is = refl }) in
                 rw (g, shift-is, ← at) step
 
             pub bucketed-long : length bucketed ≡ length before
             bucketed-long = written-length fits bucketed-written
 
-            module _ (last : List ℕ) (p : last ≡ take 4423 bucketed ++ pairWords left right rank ++ drop 135495 bucketed) where
-              last-written : Written row [] before last 135495
+            module _ (last : List ℕ) (p : last ≡ take 4679 bucketed ++ pairWords left right rank ++ drop 135751 bucketed) where
+              last-written : Written row [] before last 135751
               last-written =
                   let long = length-pairWords left right rank in
-                  let at : 4423 + length (pairWords left right rank) ≡ 135495 = omega arith in
+                  let at : 4679 + length (pairWords left right rank) ≡ 135751 = omega arith in
                   let step = written-part fits bucketed-written {part = pairWords left right rank} {rest = []} (record { is = sym (append-nil (pairWords left right rank)) }) in
                   rw (p, ← at) step
 
               pub last-long : length last ≡ length before
               last-long = written-length fits last-written
 
-              pub pieces-filled : last ≡ row ++ drop 135495 before
+              pub pieces-filled : last ≡ row ++ drop 135751 before
               pieces-filled = written-ended fits last-written refl ∙ rw length-pieceWords
 
 -- ---- what is derived of the token lists
@@ -132,76 +154,69 @@ module _ (first second : List (List ℕ)) where
       omega
       (arith, length-append (beginnings first 256) (beginnings second 256 ++ (longestContent first ∷ [])), length-append (beginnings second 256) (longestContent first ∷ []), length-beginnings first 256, length-beginnings second 256)
 
-  module _ (before : List ℕ) (room : 136008 ≤ length before) where
+  module _ (before : List ℕ) (room : 136264 ≤ length before) where
     abbrev output : List ℕ
-    output = take 135495 before ++ tokenWords first second
+    output = take 135751 before ++ tokenWords first second
 
-    front-long : length (take 135495 before) ≡ 135495
-    front-long = length-take-le 135495 before (omega arith)
+    front-long : length (take 135751 before) ≡ 135751
+    front-long = length-take-le 135751 before (omega arith)
 
-    length-output : length output ≡ 136008
-    length-output = omega (arith, length-append (take 135495 before) (tokenWords first second), front-long, length-tokenWords)
+    length-output : length output ≡ 136264
+    length-output = omega (arith, length-append (take 135751 before) (tokenWords first second), front-long, length-tokenWords)
 
     token-room : length output ≤ length before
     token-room = omega (arith, length-output)
 
-    tokens-start : Written output (tokenWords first second) before before 135495
+    tokens-start : Written output (tokenWords first second) before before 135751
     tokens-start = record {
       within = omega (arith, length-output);
-      left = drop-at (take 135495 before) (tokenWords first second) 135495 front-long;
-      front = sym (ap (λ (l : List ℕ). l ++ drop 135495 before) (take-at (take 135495 before) (tokenWords first second) 135495 front-long) ∙ take-append-drop 135495 before);
+      left = drop-at (take 135751 before) (tokenWords first second) 135751 front-long;
+      front = sym (ap (λ (l : List ℕ). l ++ drop 135751 before) (take-at (take 135751 before) (tokenWords first second) 135751 front-long) ∙ take-append-drop 135751 before);
     }
 
-    module _ (one : List ℕ) (e : one ≡ take 135495 before ++ beginnings first 256 ++ drop 135751 before) where
-      one-written : Written output (beginnings second 256 ++ (longestContent first ∷ [])) before one 135751
+    module _ (one : List ℕ) (e : one ≡ take 135751 before ++ beginnings first 256 ++ drop 136007 before) where
+      one-written : Written output (beginnings second 256 ++ (longestContent first ∷ [])) before one 136007
       unfolding tokenWords
       one-written =
           let long = length-beginnings first 256 in
-          let at : 135495 + length (beginnings first 256) ≡ 135751 = omega arith in
+          let at : 135751 + length (beginnings first 256) ≡ 136007 = omega arith in
           let step = written-part token-room tokens-start {part = beginnings first 256} {rest = beginnings second 256 ++ (longestContent first ∷ [])} (record { is = refl }) in
           rw (e, ← at) step
 
       pub one-long : length one ≡ length before
       one-long = written-length token-room one-written
 
-      module _ (two : List ℕ) (f : two ≡ take 135751 one ++ beginnings second 256 ++ drop 136007 one) where
-        two-written : Written output (longestContent first ∷ []) before two 136007
+      module _ (two : List ℕ) (f : two ≡ take 136007 one ++ beginnings second 256 ++ drop 136263 one) where
+        two-written : Written output (longestContent first ∷ []) before two 136263
         two-written =
             let long = length-beginnings second 256 in
-            let at : 135751 + length (beginnings second 256) ≡ 136007 = omega arith in
+            let at : 136007 + length (beginnings second 256) ≡ 136263 = omega arith in
             let step = written-part token-room one-written {part = beginnings second 256} {rest = longestContent first ∷ []} (record { is = refl }) in
             rw (f, ← at) step
 
         pub two-long : length two ≡ length before
         two-long = written-length token-room two-written
 
-        pub tokens-filled : (longest : ℕ) → longest ≡ longestContent first → set two 136007 longest ≡ take 135495 before ++ tokenWords first second ++ drop 136008 before
+        pub tokens-filled : (longest : ℕ) → longest ≡ longestContent first → set two 136263 longest ≡ take 135751 before ++ tokenWords first second ++ drop 136264 before
         tokens-filled longest g =
-            ap (set two 136007) g
+            ap (set two 136263) g
             ∙ written-ended token-room (written-byte token-room two-written {rest = []} (record { is = refl })) refl
             ∙ ap (λ (n : ℕ). output ++ drop n before) length-output
 
 -- ---- both
 
--- A row of m words put behind one of n, which stand at the front of a buffer.
-behind-front : (front row : List ℕ) (n m : ℕ) → length front ≡ n → (before written last : List ℕ) → written ≡ front ++ drop n before → last ≡ take n written ++ row ++ drop (n + m) written
-    → last ≡ front ++ row ++ drop (n + m) before
-behind-front front row n m long before written last e f =
-    let behind : drop (n + m) (front ++ drop n before) ≡ drop (n + m) before = ap (λ (k : ℕ). drop (k + m) (front ++ drop n before)) (sym long) ∙ drop-append-add front (drop n before) m ∙ drop-drop m n before in
-    f ∙ rw (e, take-at front (drop n before) n long, behind)
-
 module _ (kind raw count : ℕ) (noted : List ℕ) (pieces : List (List ℕ)) (lookup left right rank : List ℕ) (first second : List (List ℕ)) (all-noted : length noted ≡ 64) where
   abbrev front : List ℕ
   front = pieceWords kind raw count noted pieces lookup left right rank
 
-  front-is : length front ≡ 135495
+  front-is : length front ≡ 135751
   front-is = length-pieceWords kind raw count noted pieces lookup left right rank all-noted
 
-  pub length-index : length (indexRow kind raw count noted pieces lookup left right rank first second) ≡ 136008
+  pub length-index : length (indexRow kind raw count noted pieces lookup left right rank first second) ≡ 136264
   unfolding indexRow
   length-index = omega (arith, length-append front (tokenWords first second), front-is, length-tokenWords first second)
 
-  pub index-filled : (before written last : List ℕ) → written ≡ front ++ drop 135495 before → last ≡ take 135495 written ++ tokenWords first second ++ drop 136008 written
-      → last ≡ indexRow kind raw count noted pieces lookup left right rank first second ++ drop 136008 before
+  pub index-filled : (before written last : List ℕ) → written ≡ front ++ drop 135751 before → last ≡ take 135751 written ++ tokenWords first second ++ drop 136264 written
+      → last ≡ indexRow kind raw count noted pieces lookup left right rank first second ++ drop 136264 before
   unfolding indexRow
-  index-filled before written last = behind-front front (tokenWords first second) 135495 513 front-is before written last
+  index-filled before written last = behind-front front (tokenWords first second) 135751 513 front-is before written last

@@ -6,7 +6,7 @@ use native.Mathlib.Omega.{arith}
 use lib.ListN.{length, getD, drop, length-append, List·getD-append}
 use lib.Seq.{slice, take-append-le, take-append-add, take-append-seam, drop-append-seam, getD-at}
 use Rattle.model.specs.Model.{Model, contents, piecesOf}
-use Rattle.index.specs.Index.{firstBytes, markId, bucketShift, rowIndex}
+use Rattle.index.specs.Index.{markId, pieceIndex, bucketShift, rowIndex}
 use Rattle.sections.specs.Beginnings.{beginnings, longestContent}
 use Rattle.sections.proofs.SeekLaws.{length-beginnings}
 use Rattle.units.specs.Kinds.{kindOf, rawPath}
@@ -19,7 +19,7 @@ use Rattle.units.specs.declared.RawPath.the-variants.{Absent, Present}
 use Rattle.prepare.specs.Layout.{kindAt, rawPathAt, crossingCountAt, crossingsAt, markIdAt, shiftAt, firstBytesAt, bucketsAt, firstTokensAt, secondTokensAt, longestContentAt, indexLength, pieceWords, tokenWords, indexRow}
 use Rattle.prepare.specs.Numbers.{kindNumber, kindFrom, rawPathNumber, rawPathFrom}
 use Rattle.prepare.specs.Prepare.{derivedIndex}
-use Rattle.prepare.proofs.LayoutLaws.{length-firstBytes, length-rowIndex, length-pieceWords, length-index}
+use Rattle.prepare.proofs.LayoutLaws.{length-pieceIndex, length-rowIndex, length-pieceWords, length-index}
 use Rattle.prepare.proofs.PrepareLaws.{noted-long}
 
 -- A number gives back what it stands for.
@@ -57,7 +57,7 @@ module _ (kind raw count : ℕ) (noted : List ℕ) (pieces : List (List ℕ)) (l
   heads = kind ∷ raw ∷ count ∷ []
 
   abbrev starts : List ℕ
-  starts = firstBytes pieces lookup ++ rowIndex left right rank shift
+  starts = pieceIndex pieces lookup ++ rowIndex left right rank shift
 
   pub noted-read : slice crossingsAt markIdAt row ≡ noted
   unfolding pieceWords
@@ -86,18 +86,18 @@ module _ (kind raw count : ℕ) (noted : List ℕ) (pieces : List (List ℕ)) (l
       ap (λ (l : List ℕ). getD l 68 0) (sym (append-assoc (heads ++ noted) (markId pieces lookup ∷ []) (shift ∷ starts)))
       ∙ getD-at ((heads ++ noted) ++ (markId pieces lookup ∷ [])) shift starts 0 68 (omega (arith, length-append (heads ++ noted) (markId pieces lookup ∷ []), before-mark))
 
-  pub first-bytes-read : slice firstBytesAt bucketsAt row ≡ firstBytes pieces lookup
-  first-bytes-read =
-      ap (slice 69 326) row-is
-      ∙ part-between before-starts (firstBytes pieces lookup) (rowIndex left right rank shift) 69 326 long (omega (arith, length-firstBytes pieces lookup))
+  pub piece-index-read : slice firstBytesAt bucketsAt row ≡ pieceIndex pieces lookup
+  piece-index-read =
+      ap (slice 69 582) row-is
+      ∙ part-between before-starts (pieceIndex pieces lookup) (rowIndex left right rank shift) 69 582 long (omega (arith, length-pieceIndex pieces lookup))
 
   pub row-index-read : slice bucketsAt firstTokensAt row ≡ rowIndex left right rank shift
   row-index-read =
-      ap (slice 326 135495) (row-is ∙ sym (append-assoc before-starts (firstBytes pieces lookup) (rowIndex left right rank shift)) ∙ ap (λ (l : List ℕ). (before-starts ++ firstBytes pieces lookup) ++ l) (sym (append-nil (rowIndex left right rank shift))))
-      ∙ part-between (before-starts ++ firstBytes pieces lookup) (rowIndex left right rank shift) [] 326 135495 (omega (arith, length-append before-starts (firstBytes pieces lookup), long, length-firstBytes pieces lookup)) (omega (arith, length-rowIndex left right rank shift))
+      ap (slice 582 135751) (row-is ∙ sym (append-assoc before-starts (pieceIndex pieces lookup) (rowIndex left right rank shift)) ∙ ap (λ (l : List ℕ). (before-starts ++ pieceIndex pieces lookup) ++ l) (sym (append-nil (rowIndex left right rank shift))))
+      ∙ part-between (before-starts ++ pieceIndex pieces lookup) (rowIndex left right rank shift) [] 582 135751 (omega (arith, length-append before-starts (pieceIndex pieces lookup), long, length-pieceIndex pieces lookup)) (omega (arith, length-rowIndex left right rank shift))
 
 -- The words of the token lists stand behind those of the pieces.
-module _ (front : List ℕ) (first second : List (List ℕ)) (front-long : length front ≡ 135495) where
+module _ (front : List ℕ) (first second : List (List ℕ)) (front-long : length front ≡ 135751) where
   abbrev firsts : List ℕ
   firsts = beginnings first 256
 
@@ -106,22 +106,22 @@ module _ (front : List ℕ) (first second : List (List ℕ)) (front-long : lengt
 
   pub first-tokens-read : slice firstTokensAt secondTokensAt (front ++ tokenWords first second) ≡ firsts
   unfolding tokenWords
-  first-tokens-read = part-between front firsts (seconds ++ (longestContent first ∷ [])) 135495 135751 front-long (omega (arith, length-beginnings first 256))
+  first-tokens-read = part-between front firsts (seconds ++ (longestContent first ∷ [])) 135751 136007 front-long (omega (arith, length-beginnings first 256))
 
-  to-second : length (front ++ firsts) ≡ 135751
+  to-second : length (front ++ firsts) ≡ 136007
   to-second = omega (arith, length-append front firsts, length-beginnings first 256)
 
   pub second-tokens-read : slice secondTokensAt longestContentAt (front ++ tokenWords first second) ≡ seconds
   unfolding tokenWords
   second-tokens-read =
-      ap (slice 135751 136007) (sym (append-assoc front firsts (seconds ++ (longestContent first ∷ []))))
-      ∙ part-between (front ++ firsts) seconds (longestContent first ∷ []) 135751 136007 to-second (omega (arith, length-beginnings second 256))
+      ap (slice 136007 136263) (sym (append-assoc front firsts (seconds ++ (longestContent first ∷ []))))
+      ∙ part-between (front ++ firsts) seconds (longestContent first ∷ []) 136007 136263 to-second (omega (arith, length-beginnings second 256))
 
   pub longest-read : getD (front ++ tokenWords first second) longestContentAt 0 ≡ longestContent first
   unfolding tokenWords
   longest-read =
-      ap (λ (l : List ℕ). getD l 136007 0) (sym (append-assoc front firsts (seconds ++ (longestContent first ∷ []))) ∙ sym (append-assoc (front ++ firsts) seconds (longestContent first ∷ [])))
-      ∙ getD-at ((front ++ firsts) ++ seconds) (longestContent first) [] 0 136007 (omega (arith, length-append (front ++ firsts) seconds, to-second, length-beginnings second 256))
+      ap (λ (l : List ℕ). getD l 136263 0) (sym (append-assoc front firsts (seconds ++ (longestContent first ∷ []))) ∙ sym (append-assoc (front ++ firsts) seconds (longestContent first ∷ [])))
+      ∙ getD-at ((front ++ firsts) ++ seconds) (longestContent first) [] 0 136263 (omega (arith, length-append (front ++ firsts) seconds, to-second, length-beginnings second 256))
 
 -- The kind and the raw path of a model, from the index's first words.
 module _ (m : Model) where
@@ -152,13 +152,13 @@ module _ (m : Model) where
   unfolding derivedIndex indexRow
   index-is = refl
 
-  front-long : length front ≡ 135495
+  front-long : length front ≡ 135751
   front-long = length-pieceWords (kindNumber (kindOf m)) (rawPathNumber (rawPath m)) (noting (piecesOf m) (kindOf m) .count) (noting (piecesOf m) (kindOf m) .noted) (piecesOf m) (m .lookup) (m .left) (m .right) (m .rank) all-64
 
-  part-of-front : (from to : ℕ) → to ≤ 135495 → slice from to (derivedIndex m) ≡ slice from to front
+  part-of-front : (from to : ℕ) → to ≤ 135751 → slice from to (derivedIndex m) ≡ slice from to front
   part-of-front from to h = ap (slice from to) index-is ∙ front-part front tokens from to (omega (arith, front-long))
 
-  word-of-front : (at : ℕ) → at < 135495 → getD (derivedIndex m) at 0 ≡ getD front at 0
+  word-of-front : (at : ℕ) → at < 135751 → getD (derivedIndex m) at 0 ≡ getD front at 0
   word-of-front at h = ap (λ (l : List ℕ). getD l at 0) index-is ∙ List·getD-append front tokens 0 at (omega (arith, front-long))
 
   -- The other parts of its index.
@@ -171,20 +171,20 @@ module _ (m : Model) where
   pub shift-at : getD (derivedIndex m) shiftAt 0 ≡ bucketShift (length (piecesOf m))
   shift-at = word-of-front 68 (omega arith) ∙ shift-read (kindNumber (kindOf m)) (rawPathNumber (rawPath m)) (noting (piecesOf m) (kindOf m) .count) (noting (piecesOf m) (kindOf m) .noted) (piecesOf m) (m .lookup) (m .left) (m .right) (m .rank) all-64
 
-  pub first-bytes-at : slice firstBytesAt bucketsAt (derivedIndex m) ≡ firstBytes (piecesOf m) (m .lookup)
-  first-bytes-at = part-of-front 69 326 (omega arith) ∙ first-bytes-read (kindNumber (kindOf m)) (rawPathNumber (rawPath m)) (noting (piecesOf m) (kindOf m) .count) (noting (piecesOf m) (kindOf m) .noted) (piecesOf m) (m .lookup) (m .left) (m .right) (m .rank) all-64
+  pub piece-index-at : slice firstBytesAt bucketsAt (derivedIndex m) ≡ pieceIndex (piecesOf m) (m .lookup)
+  piece-index-at = part-of-front 69 582 (omega arith) ∙ piece-index-read (kindNumber (kindOf m)) (rawPathNumber (rawPath m)) (noting (piecesOf m) (kindOf m) .count) (noting (piecesOf m) (kindOf m) .noted) (piecesOf m) (m .lookup) (m .left) (m .right) (m .rank) all-64
 
   pub row-index-at : slice bucketsAt firstTokensAt (derivedIndex m) ≡ rowIndex (m .left) (m .right) (m .rank) (bucketShift (length (piecesOf m)))
-  row-index-at = part-of-front 326 135495 (omega arith) ∙ row-index-read (kindNumber (kindOf m)) (rawPathNumber (rawPath m)) (noting (piecesOf m) (kindOf m) .count) (noting (piecesOf m) (kindOf m) .noted) (piecesOf m) (m .lookup) (m .left) (m .right) (m .rank) all-64
+  row-index-at = part-of-front 582 135751 (omega arith) ∙ row-index-read (kindNumber (kindOf m)) (rawPathNumber (rawPath m)) (noting (piecesOf m) (kindOf m) .count) (noting (piecesOf m) (kindOf m) .noted) (piecesOf m) (m .lookup) (m .left) (m .right) (m .rank) all-64
 
   pub first-tokens-at : slice firstTokensAt secondTokensAt (derivedIndex m) ≡ beginnings (contents (m .first)) 256
-  first-tokens-at = ap (slice 135495 135751) index-is ∙ first-tokens-read front (contents (m .first)) (contents (m .second)) front-long
+  first-tokens-at = ap (slice 135751 136007) index-is ∙ first-tokens-read front (contents (m .first)) (contents (m .second)) front-long
 
   pub second-tokens-at : slice secondTokensAt longestContentAt (derivedIndex m) ≡ beginnings (contents (m .second)) 256
-  second-tokens-at = ap (slice 135751 136007) index-is ∙ second-tokens-read front (contents (m .first)) (contents (m .second)) front-long
+  second-tokens-at = ap (slice 136007 136263) index-is ∙ second-tokens-read front (contents (m .first)) (contents (m .second)) front-long
 
   pub longest-at : getD (derivedIndex m) longestContentAt 0 ≡ longestContent (contents (m .first))
-  longest-at = ap (λ (l : List ℕ). getD l 136007 0) index-is ∙ longest-read front (contents (m .first)) (contents (m .second)) front-long
+  longest-at = ap (λ (l : List ℕ). getD l 136263 0) index-is ∙ longest-read front (contents (m .first)) (contents (m .second)) front-long
 
   pub index-long : length (derivedIndex m) ≡ indexLength
   unfolding derivedIndex

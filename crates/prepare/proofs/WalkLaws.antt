@@ -14,13 +14,12 @@ use Rattle.utf8.specs.Lists.{takeWhile, below}
 use Rattle.utf8.proofs.Places.{getD-countFrom}
 use Rattle.utf8.proofs.Fronts.{front-within, front-next, front-stop, front-end, front-on, length-row, getD-row}
 use Rattle.model.specs.Model.{piece, noId}
-use Rattle.model.specs.Mark.{mark}
 use Rattle.model.specs.Check.{lookupAscends}
 use Rattle.model.specs.inner.Search.{foundPiece, idAt}
 use Rattle.model.specs.declared.Found.{Found}
 use Rattle.model.specs.declared.Found.the-variants.{At, Nothing}
 use Rattle.model.proofs.LookupLaws.{id-found}
-use Rattle.index.specs.Index.{idOr, markId, firstByteStart, bucketShift, bucketStart}
+use Rattle.index.specs.Index.{idOr, keyId, firstByteStart, bucketShift, bucketStart}
 use Rattle.prepare.specs.inner.Walk.{belowFrom, firstBelowFrom}
 
 -- ---- a walk, by one entry
@@ -128,47 +127,60 @@ shift-room shift h =
     let small : 2 ^ shift ≤ 2 ^ 7 = pow-le-pow-right (omega arith) {i = shift} {j = 7} (omega arith) in
     omega (arith, small)
 
--- ---- the mark's id
+-- ---- the id of a key
 
 module _ (pieces : List (List ℕ)) (lookup : List ℕ) (ascends : lookupAscends pieces lookup ≡ true) where
-  mark-found : (found : Found) → found ≡ foundPiece pieces lookup mark → idOr (idAt lookup found) ≡ markId pieces lookup
-  unfolding markId
-  mark-found found e = ap (λ (f : Found). idOr (idAt lookup f)) e ∙ ap idOr (id-found pieces lookup ascends mark)
+  module _ (key : List ℕ) (found : Found) (e : found ≡ foundPiece pieces lookup key) where
+    key-found : idOr (idAt lookup found) ≡ keyId pieces lookup key
+    unfolding keyId
+    key-found = ap (λ (f : Found). idOr (idAt lookup f)) e ∙ ap idOr (id-found pieces lookup ascends key)
 
-  pub mark-at : (found : Found) (place : ℕ) → found ≡ foundPiece pieces lookup mark → found ≡ At place → getD lookup place 0 ≡ markId pieces lookup
-  unfolding idAt
-  mark-at found place e f = sym (ap (λ (g : Found). idOr (idAt lookup g)) f) ∙ mark-found found e
+    pub key-at : (place : ℕ) → found ≡ At place → getD lookup place 0 ≡ keyId pieces lookup key
+    unfolding idAt
+    key-at place f = sym (ap (λ (g : Found). idOr (idAt lookup g)) f) ∙ key-found
 
-  pub mark-none : (found : Found) → found ≡ foundPiece pieces lookup mark → found ≡ Nothing → noId ≡ markId pieces lookup
-  unfolding idAt
-  mark-none found e f = sym (ap (λ (g : Found). idOr (idAt lookup g)) f) ∙ mark-found found e
+    pub key-none : found ≡ Nothing → noId ≡ keyId pieces lookup key
+    unfolding idAt
+    key-none f = sym (ap (λ (g : Found). idOr (idAt lookup g)) f) ∙ key-found
 
 -- ---- a loop that fills a row with what a function gives each number
 
--- b numbers of the row stand in words from base on; behind them words is as it was before. The last of them is at.
-pub record Filling (row : ℕ → ℕ) (n base : ℕ) (before words : List ℕ) (at b : ℕ) : Type 0 where
+-- b numbers of the row stand in words from base on; behind them words is as it was before.
+pub record Filled (row : ℕ → ℕ) (n base : ℕ) (before words : List ℕ) (b : ℕ) : Type 0 where
   pub inside : b ≤ n
   pub long : length words ≡ length before
-  pub last : at ≡ row (b - 1)
   pub front : words ≡ paste before base (map row (below n)) b
 
 module _ (row : ℕ → ℕ) (n base : ℕ) (before : List ℕ) where
-  pub filling-start : 0 ≡ row 0 → Filling row n base before before 0 0
-  filling-start e = record { inside = omega arith; long = refl; last = e; front = paste-zero before base (map row (below n)) }
+  pub filled-start : Filled row n base before before 0
+  filled-start = record { inside = omega arith; long = refl; front = paste-zero before base (map row (below n)) }
 
-  module _ (words : List ℕ) (at b : ℕ) (f : Filling row n base before words at b) where
-    pub filling-next : b < n → base + n ≤ length before → (next : ℕ) → next ≡ row b → Filling row n base before (set words (base + b) next) next (b + 1)
-    filling-next h room next e =
-        let same : b ≡ b + 1 - 1 = omega arith in
+  module _ (words : List ℕ) (b : ℕ) (f : Filled row n base before words b) where
+    pub filled-next : b < n → base + n ≤ length before → (next : ℕ) → next ≡ row b → Filled row n base before (set words (base + b) next) (b + 1)
+    filled-next h room next e =
         let value : next ≡ getD (map row (below n)) b 0 = e ∙ sym (getD-row row n b 0 h) in
         record {
           inside = omega arith;
           long = length-set words (base + b) next ∙ f .long;
-          last = e ∙ ap row same;
           front = rw (f .front, value, add-one) (paste-suc before base (map row (below n)) b 0 (omega arith) (omega (arith, length-row row n)));
         }
 
-    pub filling-ended : n ≤ b → words ≡ take base before ++ map row (below n) ++ drop (base + n) before
-    filling-ended h =
+    pub filled-ended : n ≤ b → words ≡ take base before ++ map row (below n) ++ drop (base + n) before
+    filled-ended h =
         let all : b ≡ n = omega (arith, f .inside) in
         f .front ∙ rw (all, take-all n (map row (below n)) (omega (arith, length-row row n)))
+
+-- The same where the loop goes on from the last of them, at.
+pub record Filling (row : ℕ → ℕ) (n base : ℕ) (before words : List ℕ) (at b : ℕ) : Type 0 where
+  pub filled : Filled row n base before words b
+  pub last : at ≡ row (b - 1)
+
+module _ (row : ℕ → ℕ) (n base : ℕ) (before : List ℕ) where
+  pub filling-start : 0 ≡ row 0 → Filling row n base before before 0 0
+  filling-start e = record { filled = filled-start row n base before; last = e }
+
+  pub filling-next : (words : List ℕ) (at b : ℕ) → Filling row n base before words at b → b < n → base + n ≤ length before → (next : ℕ) → next ≡ row b
+      → Filling row n base before (set words (base + b) next) next (b + 1)
+  filling-next words at b f h room next e =
+      let same : b ≡ b + 1 - 1 = omega arith in
+      record { filled = filled-next row n base before words b (f .filled) h room next e; last = e ∙ ap row same }

@@ -2,7 +2,7 @@
 use Prim.Native.Nat.{ℕ}
 use mathlib.Core.List.{List, [], _∷_, _++_}
 use lib.ListN.{length}
-use Rattle.index.specs.Index.{firstBytes, markId, bucketShift, rowIndex}
+use Rattle.index.specs.Index.{markId, pieceIndex, bucketShift, rowIndex}
 use Rattle.sections.specs.Beginnings.{beginnings, longestContent}
 
 -- The lengths of the two rows.
@@ -10,7 +10,7 @@ abbrev pub adjacencyLength : ℕ
 adjacencyLength = 1024
 
 abbrev pub indexLength : ℕ
-indexLength = 136008
+indexLength = 136264
 
 -- Where the parts of the index begin.
 abbrev pub kindAt : ℕ
@@ -34,27 +34,30 @@ shiftAt = 68
 abbrev pub firstBytesAt : ℕ
 firstBytesAt = 69
 
+abbrev pub byteIdsAt : ℕ
+byteIdsAt = 326
+
 abbrev pub bucketsAt : ℕ
-bucketsAt = 326
+bucketsAt = 582
 
 abbrev pub pairsAt : ℕ
-pairsAt = 4423
+pairsAt = 4679
 
 abbrev pub firstTokensAt : ℕ
-firstTokensAt = 135495
+firstTokensAt = 135751
 
 abbrev pub secondTokensAt : ℕ
-secondTokensAt = 135751
+secondTokensAt = 136007
 
 abbrev pub longestContentAt : ℕ
-longestContentAt = 136007
+longestContentAt = 136263
 
 -- The kind, the raw path, how many crossings are noted and 64 words of them, the mark's id, the shift of the buckets, where first bytes
--- begin, where buckets do, and the pair table.
+-- begin, the ids of single bytes, where buckets begin, and the pair table.
 unfoldable pub pieceWords : ℕ → ℕ → ℕ → List ℕ → List (List ℕ) → List ℕ → List ℕ → List ℕ → List ℕ → List ℕ
 pieceWords kind rawPath count noted pieces lookup left right rank =
     let shift = bucketShift (length pieces) in
-    kind ∷ rawPath ∷ count ∷ noted ++ (markId pieces lookup ∷ shift ∷ firstBytes pieces lookup ++ rowIndex left right rank shift)
+    kind ∷ rawPath ∷ count ∷ noted ++ (markId pieces lookup ∷ shift ∷ pieceIndex pieces lookup ++ rowIndex left right rank shift)
 
 -- The bytes that contents of the two token lists begin with, and the length of the longest of the first.
 unfoldable pub tokenWords : List (List ℕ) → List (List ℕ) → List ℕ

@@ -3,6 +3,7 @@ use crate::pairs::fill_pairs;
 use crate::walk::below_from;
 use crate::walk::first_below_from;
 use model::Found;
+use model::fallback::NO_ID;
 use model::mark::MARK;
 use model::search::find_piece;
 use model::tables::number_at;
@@ -16,8 +17,8 @@ ghost use Prim.Native.Nat.{_+_, _-_, _^_, _≤_, _<_};
 ghost use lib.ListN.{length, take, drop};
 ghost use Rattle.model.specs.Check.{lookupAscends};
 ghost use Rattle.model.specs.Model.{strings};
-ghost use Rattle.index.specs.Index.{firstBytes, markId, bucketShift, buckets};
-ghost use Rattle.prepare.specs.Layout.{indexLength, crossingsAt, firstBytesAt, bucketsAt, firstTokensAt, pieceWords, tokenWords, indexRow};
+ghost use Rattle.index.specs.Index.{firstBytes, keyId, byteIds, pieceIndex, bucketShift, buckets};
+ghost use Rattle.prepare.specs.Layout.{indexLength, crossingsAt, firstBytesAt, byteIdsAt, bucketsAt, firstTokensAt, pieceWords, tokenWords, indexRow};
 
 // Where the entries of each first byte begin.
 fn fill_first_bytes(piece_bytes: &[u8], piece_offsets: &[u32], lookup: &[u32], words: &mut [u32])
@@ -32,6 +33,41 @@ fn fill_first_bytes(piece_bytes: &[u8], piece_offsets: &[u32], lookup: &[u32], w
         words[crate::FIRST_BYTES_AT + b] = at as u32;
         b += 1;
     }
+}
+
+// The id of the piece `key` as a number.
+fn key_id(piece_bytes: &[u8], piece_offsets: &[u32], lookup: &[u32], key: &[u8]) -> u32
+    requires { ⌜ lookupAscends (strings (now «piece_bytes») (now «piece_offsets»)) (now lookup) ≡ true ⌝ }
+    ensures { λ r. ⌜ r ≡ keyId (strings (now («piece_bytes» .entry)) (now («piece_offsets» .entry))) (now (lookup .entry)) (now (key .entry)) ⌝ }
+{
+    match find_piece(piece_bytes, piece_offsets, lookup, key) {
+        Found::At(place) => number_at(lookup, place),
+        Found::Nothing => NO_ID,
+    }
+}
+
+// The ids of the pieces that are one byte alone.
+fn fill_byte_ids(piece_bytes: &[u8], piece_offsets: &[u32], lookup: &[u32], words: &mut [u32])
+    requires { ⌜ lookupAscends (strings (now «piece_bytes») (now «piece_offsets»)) (now lookup) ≡ true ⌝ }
+    requires { ⌜ byteIdsAt + 256 ≤ length (now words) ⌝ }
+    ensures { λ _. ⌜ now (words .exit) ≡ take byteIdsAt (now (words .entry)) ++ byteIds (strings (now («piece_bytes» .entry)) (now («piece_offsets» .entry))) (now (lookup .entry)) ++ drop (byteIdsAt + 256) (now (words .entry)) ⌝ }
+{
+    let mut b = 0;
+    while b < 256 {
+        words[crate::BYTE_IDS_AT + b] = key_id(piece_bytes, piece_offsets, lookup, &[b as u8]);
+        b += 1;
+    }
+}
+
+// What is derived of the lookup list.
+fn fill_piece_index(piece_bytes: &[u8], piece_offsets: &[u32], lookup: &[u32], words: &mut [u32])
+    requires { ⌜ lookupAscends (strings (now «piece_bytes») (now «piece_offsets»)) (now lookup) ≡ true ⌝ }
+    requires { ⌜ length (now lookup) < 4294967296 ⌝ }
+    requires { ⌜ bucketsAt ≤ length (now words) ⌝ }
+    ensures { λ _. ⌜ now (words .exit) ≡ take firstBytesAt (now (words .entry)) ++ pieceIndex (strings (now («piece_bytes» .entry)) (now («piece_offsets» .entry))) (now (lookup .entry)) ++ drop bucketsAt (now (words .entry)) ⌝ }
+{
+    fill_first_bytes(piece_bytes, piece_offsets, lookup, words);
+    fill_byte_ids(piece_bytes, piece_offsets, lookup, words);
 }
 
 // Where the rows of each bucket of left ids begin.
@@ -75,17 +111,6 @@ fn bucket_shift(count: usize) -> u32
     shift
 }
 
-// The mark's id as a number.
-fn mark_id(piece_bytes: &[u8], piece_offsets: &[u32], lookup: &[u32]) -> u32
-    requires { ⌜ lookupAscends (strings (now «piece_bytes») (now «piece_offsets»)) (now lookup) ≡ true ⌝ }
-    ensures { λ r. ⌜ r ≡ markId (strings (now («piece_bytes» .entry)) (now («piece_offsets» .entry))) (now (lookup .entry)) ⌝ }
-{
-    match find_piece(piece_bytes, piece_offsets, lookup, &MARK) {
-        Found::At(place) => number_at(lookup, place),
-        Found::Nothing => model::fallback::NO_ID,
-    }
-}
-
 // The words of the noted crossings.
 fn copy_crossings(noted: &[u32], words: &mut [u32])
     requires { ⌜ crossingsAt + length (now noted) ≤ length (now words) ⌝ }
@@ -120,14 +145,14 @@ fn fill_pieces(
     ensures { λ _. ⌜ now (words .exit) ≡ pieceWords kind «raw_path» count (now (noted .entry)) (strings (now («piece_bytes» .entry)) (now («piece_offsets» .entry))) (now (lookup .entry)) (now (left .entry)) (now (right .entry)) (now (rank .entry)) ++ drop firstTokensAt (now (words .entry)) ⌝ }
 {
     let shift = bucket_shift(string_count(piece_offsets));
-    let mark = mark_id(piece_bytes, piece_offsets, lookup);
+    let mark = key_id(piece_bytes, piece_offsets, lookup, &MARK);
     words[crate::KIND_AT] = kind;
     words[crate::RAW_PATH_AT] = raw_path;
     words[crate::CROSSING_COUNT_AT] = count;
     copy_crossings(noted, words);
     words[crate::MARK_ID_AT] = mark;
     words[crate::SHIFT_AT] = shift;
-    fill_first_bytes(piece_bytes, piece_offsets, lookup, words);
+    fill_piece_index(piece_bytes, piece_offsets, lookup, words);
     fill_buckets(left, shift, words);
     fill_pairs(
         left,

@@ -21,7 +21,7 @@ ghost use Rattle.prepare.specs.Prepare.{PrepareOutcome, prepareOutcome};
 // The lengths of the two rows.
 pub const ADJACENCY_LEN: usize = 1024;
 
-pub const INDEX_LEN: usize = 136008;
+pub const INDEX_LEN: usize = 136264;
 
 // Where the parts of the index begin.
 pub const KIND_AT: usize = 0;
@@ -38,15 +38,17 @@ pub const SHIFT_AT: usize = 68;
 
 pub const FIRST_BYTES_AT: usize = 69;
 
-pub const BUCKETS_AT: usize = 326;
+pub const BYTE_IDS_AT: usize = 326;
 
-pub const PAIRS_AT: usize = 4423;
+pub const BUCKETS_AT: usize = 582;
 
-pub const FIRST_TOKENS_AT: usize = 135495;
+pub const PAIRS_AT: usize = 4679;
 
-pub const SECOND_TOKENS_AT: usize = 135751;
+pub const FIRST_TOKENS_AT: usize = 135751;
 
-pub const LONGEST_AT: usize = 136007;
+pub const SECOND_TOKENS_AT: usize = 136007;
+
+pub const LONGEST_AT: usize = 136263;
 
 // `prepare` on a model that `model::check` accepts.
 pub fn prepare_checked(

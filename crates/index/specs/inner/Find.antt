@@ -11,24 +11,29 @@ use Rattle.model.specs.Mark.{mark}
 use Rattle.model.specs.inner.Search.{searched, pieceOrder, rowOrder, idAt}
 use Rattle.model.specs.declared.Found.{Found}
 use Rattle.model.specs.declared.Found.the-variants.{At, Nothing}
-use Rattle.index.specs.Index.{bucketWords, pairSlot, shared}
+use Rattle.index.specs.Index.{firstByteWords, bucketWords, pairSlot, shared}
 
 -- The id that a number gives, where it does not stand for none.
 unfoldable pub idOf : ℕ → Option ℕ
 idOf id = cond (eqb id noId) none (some id)
 
--- Where the entries begin that a key's first byte has. Those of a key of one byte end after the first, the others' where the next byte's begin.
+-- Where the entries begin that a key's first byte has, and where they end: where the next byte's begin.
 unfoldable pub keyStart : List ℕ → List ℕ → ℕ
 keyStart firstBytes key = getD firstBytes (getD key 0 0) 0
 
 unfoldable pub keyEnd : List ℕ → List ℕ → ℕ
-keyEnd firstBytes key = cond (eqb (length key) 1) (keyStart firstBytes key + 1) (getD firstBytes (getD key 0 0 + 1) 0)
+keyEnd firstBytes key = getD firstBytes (getD key 0 0 + 1) 0
 
--- The id of a key, by where first bytes begin and the mark's id.
+-- The id of a byte as a number, behind where first bytes begin.
+unfoldable pub byteWord : List ℕ → ℕ → ℕ
+byteWord firstBytes b = getD firstBytes (firstByteWords + b) 0
+
+-- The id of a key, by where first bytes begin, the ids of single bytes behind that, and the mark's id.
 unfoldable pub idFrom : List (List ℕ) → List ℕ → List ℕ → ℕ → List ℕ → Option ℕ
 idFrom pieces lookup firstBytes markId key =
-    cond (same key mark) (idOf markId)
-    (idAt lookup (searched (pieceOrder pieces lookup key) (keyStart firstBytes key) (min (keyEnd firstBytes key) (length lookup))))
+    cond (eqb (length key) 1) (idOf (byteWord firstBytes (getD key 0 0)))
+    (cond (same key mark) (idOf markId)
+    (idAt lookup (searched (pieceOrder pieces lookup key) (keyStart firstBytes key) (min (keyEnd firstBytes key) (length lookup)))))
 
 -- The place of a pair's row, by where the bucket of its left id begins and ends. A left id past the buckets has no row.
 unfoldable pub rowBetween : List ℕ → List ℕ → List ℕ → ℕ → ℕ → ℕ → Found

@@ -1,14 +1,15 @@
 -- Starting ids as a search finds them, laid into a buffer that may be too short for them.
 use Prim.Native.Nat.{ℕ, min}
-use mathlib.Core.Bool.{Bool, cond}
+use mathlib.Core.Bool.{Bool, cond, _&&_}
 use mathlib.Core.List.{List, [], _∷_}
 use mathlib.Core.Option.{Option, none, some}
+use lib.Dec.{ltb, eqb}
 use lib.ListN.{length}
 use Rattle.utf8.specs.Lists.{joinMap}
 use Rattle.utf8.specs.Lists as lists
-use Rattle.model.specs.Model.{strings}
+use Rattle.model.specs.Model.{strings, noId}
 use Rattle.model.specs.Mark.{mark}
-use Rattle.index.specs.inner.Find.{idFrom}
+use Rattle.index.specs.inner.Find.{byteWord, idFrom}
 use Rattle.merge.specs.Start.{startingIdsBy, isDroppedBy, unitChars}
 use Rattle.merge.specs.declared.Own.{Own}
 use Rattle.merge.specs.declared.Own.the-variants.{Id, Missing}
@@ -22,6 +23,10 @@ idOf Missing = none
 -- The id at which a search for a character's piece ends, on any tables.
 unfoldable pub ownFound : List ℕ → List ℕ → List ℕ → List ℕ → ℕ → List ℕ → Option ℕ
 ownFound pieceBytes pieceOffsets lookup firstBytes markId char = idFrom (strings pieceBytes pieceOffsets) lookup firstBytes markId char
+
+-- The id of a byte that is a character by itself, as a number; a raw space has the mark's. None for any other byte.
+unfoldable pub byteOwn : List ℕ → ℕ → Bool → ℕ → ℕ
+byteOwn firstBytes markId raw b = cond (ltb b 0x80) (cond (raw && eqb b 0x20) markId (byteWord firstBytes b)) noId
 
 -- The characters of a unit with its virtual mark, where it has one.
 unfoldable pub markedChars : Bool → Bool → List ℕ → List (List ℕ)

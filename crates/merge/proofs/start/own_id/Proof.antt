@@ -22,7 +22,8 @@ cast-t10 c =
     let f = c .before .before .before in
     let st = start f .args in
     let all : (i : ℕ) → getD (st .lookup .now) i 0 < 4294967296 = λ i. omega (arith, f .before .before .before .shared-slice-known3 .given i) in
-    omega (arith, own-below (strings (st .piece-bytes .now) (st .piece-offsets .now)) (st .lookup .now) (st .first-bytes .now) (st .mark-id) (st .char .now) (omega (arith, start f .fits .mark-id)) all (f .find-id .ensures) (c .before .id .given .1))
+    let words : (i : ℕ) → getD (st .first-bytes .now) i 0 < 4294967296 = λ i. omega (arith, f .before .before .shared-slice-known4 .given i) in
+    omega (arith, own-below (strings (st .piece-bytes .now) (st .piece-offsets .now)) (st .lookup .now) (st .first-bytes .now) (st .mark-id) (st .char .now) (omega (arith, start f .fits .mark-id)) all words (f .find-id .ensures) (c .before .id .given .1))
 
 enum-told : tie.Need-enum-told
 enum-told c = search needs

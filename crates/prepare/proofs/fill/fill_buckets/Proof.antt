@@ -5,12 +5,12 @@ use native.Mathlib.Nat.{mul-le-mul-right}
 use native.Mathlib.Omega.{arith}
 use borrow.Author.Needs.{needs}
 use Rattle.index.specs.Index.{bucketStart, buckets}
-use Rattle.prepare.proofs.WalkLaws.{bucket-zero, bucket-on, bucket-most, Filling, filling-start, filling-next, filling-ended}
+use Rattle.prepare.proofs.WalkLaws.{bucket-zero, bucket-on, bucket-most, Filling, filled-ended, filling-start, filling-next}
 use Rattle.prepare.proofs.fill.fill_buckets.Statement.{statement}
 use Rattle.prepare.proofs.fill.fill_buckets.Tie as tie
 
 abbrev Inv-loop : tie.InvT-loop
-Inv-loop left shift words₀ size at₀ b₀ words at b = Filling (bucketStart left shift) 4097 326 words₀ words at b
+Inv-loop left shift words₀ size at₀ b₀ words at b = Filling (bucketStart left shift) 4097 582 words₀ words at b
 
 abbrev μ-loop : tie.MeasureT-loop
 μ-loop left shift words₀ size at₀ b₀ words at b = 4097 - b
@@ -33,7 +33,7 @@ power-requires : tie.Need-power-requires Inv-loop μ-loop
 power-requires c κs = search needs
 
 loop-holds : tie.Need-loop-holds Inv-loop μ-loop
-loop-holds c = let s = c .before .before .before in filling-start (row s) 4097 326 (s .args .words .now) (bucket-zero (s .args .left .now) (s .args .shift))
+loop-holds c = let s = c .before .before .before in filling-start (row s) 4097 582 (s .args .words .now) (bucket-zero (s .args .left .now) (s .args .shift))
 
 mul-below-from : tie.Need-mul-below-from Inv-loop μ-loop
 mul-below-from c =
@@ -69,17 +69,17 @@ loop-again : tie.Need-loop-again Inv-loop μ-loop
 loop-again c =
     let t = c .before .before in
     let s = start t in
-    filling-next (row s) 4097 326 (s .args .words .now) (t .loop .words) (t .loop .at) (t .loop .b) (t .loop .inv) (search needs) (search needs) (c .below-from .result) (walked c)
+    filling-next (row s) 4097 582 (s .args .words .now) (t .loop .words) (t .loop .at) (t .loop .b) (t .loop .inv) (search needs) (search needs) (c .below-from .result) (walked c)
 
 same-length : tie.Need-same-length Inv-loop μ-loop
-same-length c = c .before .loop .inv .long
+same-length c = c .before .loop .inv .filled .long
 
 returns : tie.Need-returns Inv-loop μ-loop
 unfolding buckets
 returns c =
     let t = c .before in
     let s = start t in
-    filling-ended (row s) 4097 326 (s .args .words .now) (t .loop .words) (t .loop .at) (t .loop .b) (t .loop .inv) (search needs)
+    filled-ended (row s) 4097 582 (s .args .words .now) (t .loop .words) (t .loop .b) (t .loop .inv .filled) (search needs)
 
 pub fill-buckets-spec : {M : Type 1} → statement M
 fill-buckets-spec =

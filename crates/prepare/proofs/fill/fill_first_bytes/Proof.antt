@@ -6,7 +6,7 @@ use native.Mathlib.Omega.{arith}
 use borrow.Author.Needs.{needs}
 use Rattle.model.specs.Model.{strings}
 use Rattle.index.specs.Index.{firstByteStart, firstBytes}
-use Rattle.prepare.proofs.WalkLaws.{first-zero, first-on, first-most, Filling, filling-start, filling-next, filling-ended}
+use Rattle.prepare.proofs.WalkLaws.{first-zero, first-on, first-most, Filling, filled-ended, filling-start, filling-next}
 use Rattle.prepare.proofs.fill.fill_first_bytes.Statement.{statement}
 use Rattle.prepare.proofs.fill.fill_first_bytes.Tie as tie
 
@@ -66,14 +66,14 @@ loop-again c =
     filling-next (row s) 257 69 (s .args .words .now) (t .loop .words) (t .loop .at) (t .loop .b) (t .loop .inv) (search needs) (search needs) (c .first-below-from .result) (walked c)
 
 same-length : tie.Need-same-length Inv-loop μ-loop
-same-length c = c .before .loop .inv .long
+same-length c = c .before .loop .inv .filled .long
 
 returns : tie.Need-returns Inv-loop μ-loop
 unfolding firstBytes
 returns c =
     let t = c .before in
     let s = start t in
-    filling-ended (row s) 257 69 (s .args .words .now) (t .loop .words) (t .loop .at) (t .loop .b) (t .loop .inv) (search needs)
+    filled-ended (row s) 257 69 (s .args .words .now) (t .loop .words) (t .loop .b) (t .loop .inv .filled) (search needs)
 
 pub fill-first-bytes-spec : {M : Type 1} → statement M
 fill-first-bytes-spec =
