@@ -92,38 +92,45 @@ def settles(left, result, views):
     return None, None
 
 
+def equations(claim):
+    """The equations of a claim, each as its two sides, and whether bounds stand beside them; nothing where it has another form."""
+    claim = bare(claim)
+    if both := split_at(claim, "×"):
+        first, rest = equations(both[0]), equations(both[1])
+        return (first[0] + rest[0], first[1] or rest[1]) if first and rest else (first[0], True) if first else None
+    if whole := re.match(r"_≡_ \{A = \w+\} (?=\(record \{)", claim):
+        stop = closed(claim, whole.end()) + 1
+        return [(bare(claim[whole.end():stop]), bare(claim[stop:]))], False
+    sides = split_at(claim, "≡")
+    return ([sides], False) if sides else None
+
+
 def settled_by(function, views):
     """The parts of the outcome that the contract settles, and the form that it has."""
-    settled, forms = set(), []
+    settled, shown, forms = set(), [], []
     for clause in function.ensures:
-        if not (head := re.match(r"λ (\w+)\. (?:let (.*?) in )?⌜ (.*) ⌝$", clause, re.S)):
+        head = re.match(r"λ (\w+)\. (?:let (.*?) in )?⌜ (.*) ⌝$", clause, re.S)
+        if not head or not (found := equations(head[3])):
             return set(), "no equation"
-        result, named, claim, bounded = head[1], head[2] or "", head[3], False
-        if (both := split_at(claim, "×")) and (equation := split_at(both[0], "≡")) and not split_at(both[1], "≡"):
-            sides, bounded = equation, True
-        elif whole := re.match(r"_≡_ \{A = \w+\} (?=\(record \{)", claim):
-            stop = closed(claim, whole.end()) + 1
-            sides = bare(claim[whole.end():stop]), bare(claim[stop:])
-        elif not (sides := split_at(claim, "≡")):
-            return set(), "no equation"
-        left, right = sides
-        given = f"{named} {right}"
-        if ".exit" in given or "result" not in settled and result != "_" and re.search(rf"(?<!\.)\b{result}\b", given):
-            return set(), "an equation whose right side is not computed from what was there before"
-        if left.startswith("record {"):
-            values = [bare(entry.split(" = ", 1)[1]) for entry in left[len("record {"):-1].split(";") if entry.strip()]
-            shown = [value[len(result) + 2:] for value in values if value.startswith(f"{result} .")]
-            parts = [settles(value, result, views)[0] for value in values if not value.startswith(f"{result} .")]
-            if shown and sorted(shown) == sorted(function.fields):
-                parts.append("result")
-            form = "a record of the result by its fields and lent cells" if shown else "a record of the result and lent cells"
-        else:
-            part, form = settles(left, result, views)
-            parts = [part]
-        if None in parts:
-            return set(), "an equation on something else"
-        settled |= set(parts)
-        forms.append(form + (" and a bound" if bounded else ""))
+        result, named = head[1], head[2] or ""
+        for left, right in found[0]:
+            given = f"{named} {right}"
+            if ".exit" in given or "result" not in settled and result != "_" and re.search(rf"(?<!\.)\b{result}\b", given):
+                return set(), "an equation whose right side is not computed from what was there before"
+            whole = left.startswith("record {")
+            values = [bare(entry.split(" = ", 1)[1]) for entry in left[len("record {"):-1].split(";") if entry.strip()] if whole else [left]
+            fields = [value[len(result) + 2:] for value in values if value.startswith(f"{result} .")]
+            parts = [settles(value, result, views) for value in values if not value.startswith(f"{result} .")]
+            if (None, None) in parts:
+                return set(), "an equation on something else"
+            settled |= {part for part, _ in parts}
+            shown += fields
+            if fields and sorted(shown) == sorted(function.fields):
+                settled.add("result")
+            form = parts[0][1] if not whole and parts else "a field of the result" if not whole else "a record of the result and lent cells"
+            forms.append("a record of the result by its fields and lent cells" if whole and fields else form)
+        if found[1]:
+            forms[-1] += " and a bound"
     return settled, ", then ".join(forms) or "no contract"
 
 

@@ -1,6 +1,7 @@
 -- Laws on the definitions of this crate, for its proofs and those of the crates above it.
 pub mod WriterLaws
 pub mod StretchLaws
+pub mod RepeatLaws
 pub mod PassLaws
 pub mod ItemLaws
 pub mod WalkLaws

@@ -1,9 +1,11 @@
 // Text to ids.
+mod each;
 mod held;
 mod marks;
 mod normal;
 mod parts;
 mod raw;
+mod repeats;
 mod section;
 mod stretch;
 mod unit;

@@ -1,4 +1,6 @@
 // A stretch of bytes: its units one after the other.
+use crate::each::encode_each;
+use crate::repeats::encode_repeats;
 use crate::unit::encode_unit;
 use merge::Symbols;
 use merge::start::count_symbols;
@@ -23,6 +25,9 @@ ghost use Rattle.encode.specs.inner.Writers.{inTurn, unitWriters, stretc
 ghost use Rattle.encode.specs.Parts.{stretch};
 ghost use Rattle.encode.specs.inner.Tables.{ownIn, stretchIn};
 ghost use Rattle.encode.specs.inner.Passes.{partsSymbols, partsWriter};
+
+// From how many bytes on a stretch has its units remembered: in a shorter one few come again.
+const LONG: usize = 16384;
 
 // The ids of the units from `start` on into the front of `out`, each unit's behind those of the last. Answers how many there are.
 fn encode_rest(
@@ -50,21 +55,12 @@ fn encode_rest(
     requires { ⌜ start ≤ length (now section) ⌝ }
     ensures { λ n. ⌜ _≡_ {A = Merged} (record { count = n; ids = now (out .exit) }) (inTurn (unitWriters (rowIn (now (left .entry)) (now (right .entry)) (now (result .entry)) (now (rank .entry)) (now («row_index» .entry)) shift) (ownFound (now («piece_bytes» .entry)) (now («piece_offsets» .entry)) (now (lookup .entry)) (now («first_bytes» .entry)) «mark_id») (now (fallback .entry)) false raw (unitsFrom (cutBy kind (namedCrossings (strings (now («piece_bytes» .entry)) (now («piece_offsets» .entry))) (now (noted .entry)) count) (pairNoted (now (adjacency .entry))) raw (now (section .entry))) (now (section .entry)) start)) (now (out .entry))) ⌝ }
 {
-    let mut from = start;
-    let mut written = 0;
-    loop {
-        let next = next_unit(
+    if section.len() < LONG {
+        return encode_each(
             kind,
-            piece_bytes,
-            piece_offsets,
             noted,
             count,
             adjacency,
-            raw,
-            section,
-            from,
-        );
-        let more = encode_unit(
             piece_bytes,
             piece_offsets,
             lookup,
@@ -77,17 +73,34 @@ fn encode_rest(
             rank,
             row_index,
             shift,
-            &section[from..next],
+            section,
             raw,
-            false,
-            &mut out[written..],
+            start,
+            out,
         );
-        written += more;
-        if section.len() <= next {
-            return written;
-        }
-        from = next;
     }
+    encode_repeats(
+        kind,
+        noted,
+        count,
+        adjacency,
+        piece_bytes,
+        piece_offsets,
+        lookup,
+        fallback,
+        first_bytes,
+        mark_id,
+        left,
+        right,
+        result,
+        rank,
+        row_index,
+        shift,
+        section,
+        raw,
+        start,
+        out,
+    )
 }
 
 // The ids of a stretch into the front of `out`: its first unit, which has the virtual mark, and then the others. Answers how many there are.

@@ -1,4 +1,4 @@
--- `encode::stretch::encode_rest` meets its contract. The loop's invariant: the units before `from` are written, and those from there on follow.
+-- `encode::each::encode_each` meets its contract. The loop's invariant: the units before `from` are written, and those from there on follow.
 use Prim.Native.Nat.{ℕ, _-_, _≤_}
 use mathlib.Core.Bool.{Bool, false}
 use mathlib.Core.Option.{Option}
@@ -17,8 +17,8 @@ use Rattle.merge.specs.inner.Turns.{rowIn}
 use Rattle.encode.specs.inner.Writers.{unitWriter, unitWriters}
 use Rattle.encode.proofs.WriterLaws.{Going, going-start, going-fits, going-next, going-ended, keeps-unit}
 use Rattle.encode.proofs.StretchLaws.{NextUnit, next-unit, first-writer}
-use Rattle.encode.proofs.stretch.encode_rest.Statement.{statement}
-use Rattle.encode.proofs.stretch.encode_rest.Tie as tie
+use Rattle.encode.proofs.each.encode_each.Statement.{statement}
+use Rattle.encode.proofs.each.encode_each.Tie as tie
 
 abbrev Inv-loop : tie.InvT-loop
 Inv-loop kind noted count adjacency piece-bytes piece-offsets lookup fallback first-bytes mark-id left right result rank row-index shift section raw start₀ out₀ from₀ written₀ out from written =
@@ -133,8 +133,8 @@ same-length c =
     (first-writer (rowOf s) (ownOf s) (s .args .fallback .now) false (s .args .raw) (s .args .section .now) (f .before .loop .from) (f .next-unit .result) _ [] (h .last (c .if1 .taken)))
     (keeps-unit (rowOf s) (ownOf s) (s .args .fallback .now) (charsOf f)) (e .encode-unit .ensures) .long
 
-pub encode-rest-spec : {M : Type 1} → statement M
-encode-rest-spec =
+pub encode-each-spec : {M : Type 1} → statement M
+encode-each-spec =
     tie.close
     (tie.spec
     Inv-loop
