@@ -1,17 +1,13 @@
 -- What the passes find by the rows that are derived of an accepted model is what the model says. Assumes nothing.
-use Prim.Native.Nat.{ℕ, _+_, _-_, min}
+use Prim.Native.Nat.{ℕ, zero, suc, _+_, _<_, min}
 use native.Mathlib.Omega.{arith}
 use mathlib.Core.Path.{_≡_, refl, sym, ap, ap₂, _∙_, subst}
 use mathlib.Core.Bool.{Bool, true, false, cond}
-use mathlib.Core.Logic.{⊎-elim}
 use mathlib.Core.Option.{Option}
-use mathlib.Core.List.{List, [], _∷_, _++_, map}
-use borrow.Author.Tests.{ltb-true, ltb-false}
-use lib.Dec.{ltb}
-use lib.ListN.{length, take, length-take, List·getD-eq-default}
-use lib.Seq.{slice, getD-take, getD-drop}
+use mathlib.Core.List.{List, [], _∷_, map}
+use lib.ListN.{length, take, drop}
+use lib.Seq.{slice}
 use Rattle.utf8.specs.Lists.{isEmpty, joinMap, sum}
-use Rattle.utf8.proofs.Tests.{either}
 use Rattle.utf8.proofs.Places.{slice-of}
 use Rattle.model.specs.Model.{Model, Row, piecesOf}
 use Rattle.model.specs.Check.{checkNumber}
@@ -58,6 +54,34 @@ tablesOf m = record {
   rank = m .rank;
 }
 
+-- ---- lists of bytes
+
+module _ {A : Type 0} {P : A → Type 0} where
+  pub each-take : (n : ℕ) {xs : List A} → Each P xs → Each P (take n xs)
+  each-take zero ps = none-left
+  each-take (suc n) none-left = none-left
+  each-take (suc n) (one-more p ps) = one-more p (each-take n ps)
+
+  pub each-drop : (n : ℕ) {xs : List A} → Each P xs → Each P (drop n xs)
+  each-drop zero ps = ps
+  each-drop (suc n) none-left = none-left
+  each-drop (suc n) (one-more p ps) = each-drop n ps
+
+  pub each-slice : (from to : ℕ) {xs : List A} → Each P xs → Each P (slice from to xs)
+  each-slice from to ps = each-drop from (each-take to ps)
+
+abbrev pub Bytes : List ℕ → Type 0
+Bytes l = Each (λ (b : ℕ). b < 256) l
+
+pub bytes-small : {l : List ℕ} → Bytes l → Small l
+bytes-small none-left i = omega arith
+bytes-small (one-more p ps) zero = p
+bytes-small (one-more p ps) (suc i) = bytes-small ps i
+
+pub small-bytes : (l : List ℕ) → Small l → Bytes l
+small-bytes [] small = none-left
+small-bytes (x ∷ l) small = one-more (small 0) (small-bytes l (λ i. small (suc i)))
+
 -- ---- parts of bytes
 
 pub data OfBytes : Item Stretch → Type 0 where
@@ -72,13 +96,6 @@ sum-alike : {A : Type 0} (f g : A → ℕ) {xs : List A} → Each (λ (x : A). f
 sum-alike f g none-left = refl
 sum-alike f g (one-more e es) = omega (arith, e, sum-alike f g es)
 
-small-part : (a b : ℕ) (l : List ℕ) → Small l → Small (slice a b l)
-small-part a b l small i =
-    rw (getD-drop a (take b l) i 0)
-    (⊎-elim (λ t. rw (getD-take b l (a + i) 0 (ltb-true (a + i) b t)) (small (a + i)))
-    (λ t. rw (List·getD-eq-default (take b l) 0 {n = a + i} (omega (arith, ltb-false (a + i) b t, length-take b l))) (omega arith))
-    (either (ltb (a + i) b)))
-
 -- The sections of a text of bytes are of bytes.
 pub raw-bytes : (prepend : RawPrepend) (continuation : Bool) (text : List ℕ) → Small text → (items : List (Item Section)) → Each OfBytes (takenApart (rawStretch prepend continuation text) items)
 unfolding rawStretch bytesOf stretch
@@ -88,7 +105,7 @@ raw-bytes prepend continuation text small (plain section ∷ items) = each-appen
   where
     go : (b : Bool) → Each OfBytes (cond b [] (plain (record { bytes = slice (section .start) (section .stop) text; virtual = virtualMark prepend continuation (section .opening) (slice (section .start) (section .stop) text); raw = true }) ∷ []))
     go true = none-left
-    go false = one-more (bytes-fine (small-part (section .start) (section .stop) text small)) none-left
+    go false = one-more (bytes-fine (bytes-small (each-slice (section .start) (section .stop) (small-bytes text small)))) none-left
 
 fits-id : (id : ℕ) → Fits (idWriter id) (id ∷ []) 1
 unfolding idWriter

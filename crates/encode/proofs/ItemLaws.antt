@@ -7,7 +7,7 @@ use mathlib.Core.Option.{Option}
 use mathlib.Core.List.{List, [], _∷_}
 use lib.Dec.{ltb}
 use lib.ListN.{length}
-use Rattle.utf8.specs.Lists.{any, joinMap}
+use Rattle.utf8.specs.Lists.{joinMap}
 use Rattle.utf8.proofs.Tests.{or-left, or-right}
 use Rattle.utf8.proofs.Places.{any-append}
 use Rattle.normalise.specs.Normalise.{outgrows}

@@ -4,7 +4,7 @@ use native.Mathlib.Omega.{arith}
 use mathlib.Core.Path.{_≡_, refl, sym, ap, ap₂, _∙_, fun-ext, subst}
 use mathlib.Core.Bool.{Bool, true, false, cond}
 use mathlib.Core.Logic.{⊎-elim}
-use mathlib.Core.List.{List, [], _∷_, _++_, map}
+use mathlib.Core.List.{List, [], _∷_, _++_, map, map-append}
 use borrow.Author.Tests.{ltb-true, ltb-false}
 use lib.Dec.{ltb}
 use lib.ListN.{length, length-append, length-map, List·getD-append, List·getD-eq-default}
@@ -38,7 +38,6 @@ use Rattle.encode.specs.Parts.{Stretch}
 use Rattle.encode.specs.Encode.{stretchUnits, unitIds, idsOf, startsOf, dropsOf}
 use Rattle.encode.specs.inner.Writers.{Writer, merging, unitWriter, unitWriters, stretchWriter}
 use Rattle.encode.proofs.WriterLaws.{keeps-merging, Fits, fits-merging, each, fits-all}
-use Rattle.encode.proofs.PassLaws.{map-append}
 
 -- ---- the characters of a stretch, whatever its units
 

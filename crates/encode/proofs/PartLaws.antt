@@ -13,8 +13,7 @@ use Rattle.model.specs.declared.Metaspace.{Metaspace}
 use Rattle.normalise.specs.Normalise.{outgrows}
 use Rattle.normalise.specs.Spaces.{metaspaceOutput, metaspaced}
 use Rattle.merge.specs.inner.Turns.{Merged}
-use Rattle.sections.specs.Sections.{Item, token, plain}
-use Rattle.sections.specs.SecondList.{NormalPart}
+use Rattle.sections.specs.Sections.{token, plain}
 use Rattle.sections.specs.Beginnings.{beginnings}
 use Rattle.sections.specs.inner.Walk.{nextItem}
 use Rattle.sections.specs.declared.Cursor.{Cursor}

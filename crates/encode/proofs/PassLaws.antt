@@ -3,14 +3,14 @@ use Prim.Native.Nat.{ℕ, zero, suc, _+_, _-_, _≤_, _<_, min, max}
 use native.Mathlib.Omega.{arith}
 use native.Mathlib.Nat.{add-zero, zero-add, zero-min}
 use mathlib.Core.Path.{_≡_, refl, sym, ap, ap₂, _∙_, subst}
-use mathlib.Core.Bool.{Bool, true, false, not, cond, and-false}
+use mathlib.Core.Bool.{Bool, true, false, not, and-false}
 use mathlib.Core.Option.{Option}
-use mathlib.Core.List.{List, [], _∷_, _++_, map}
+use mathlib.Core.List.{List, [], _∷_, _++_, map, map-append}
 use borrow.Author.Tests.{not-true, not-false, ne-eqb, lt-ltb}
 use lib.Dec.{eqb, ltb, eqb·suc-zero}
 use lib.ListN.{length, getD, take, drop, set, length-drop, length-map}
 use lib.Seq.{slice}
-use Rattle.utf8.specs.Lists.{isEmpty, sum, joinMap}
+use Rattle.utf8.specs.Lists.{sum, joinMap}
 use Rattle.utf8.specs.Lists as lists
 use Rattle.utf8.specs.Chars.{chars, charWidth}
 use Rattle.utf8.proofs.Lists.{by-length}
@@ -248,10 +248,6 @@ module _ {own : List ℕ → Option ℕ} {fallback : List ℕ} {whole : List (It
         ap₂ {C = Symbols} (λ (c : ℕ) (x : ℕ). record { count = c; drops = x }) (let z : n ≡ min (sum (map (partStarts own fallback) whole)) room = omega (arith, g .counted) in z) (let z : d ≡ held (sum (map (partDrops own fallback) whole)) = omega (arith, g .dropped, g .few) in z)
 
 -- ---- the second pass
-
-pub map-append : {A B : Type 0} (f : A → B) (xs ys : List A) → map f (xs ++ ys) ≡ map f xs ++ map f ys
-map-append f [] ys = refl
-map-append {B = B} f (x ∷ xs) ys = ap {B = List B} (λ l. f x ∷ l) (map-append f xs ys)
 
 module _ (t : Tables) (whole left : List (Item Stretch)) {before out : List ℕ} {n : ℕ} (g : Going (map (partWriter t) whole) (map (partWriter t) left) before out n) where
   pub parts-on : (parts rest : List (Item Stretch)) → left ≡ parts ++ rest → {k : ℕ} {after : List ℕ}

@@ -1,6 +1,6 @@
 -- Laws of a section off the raw path: what the steps leave of it, by where the text stands after them. Assumes nothing.
 use Prim.Native.Nat.{ℕ, _≤_}
-use mathlib.Core.Path.{_≡_, refl, sym, ap, _∙_}
+use mathlib.Core.Path.{_≡_, sym, ap, _∙_}
 use mathlib.Core.Bool.{Bool, true, false, _||_}
 use mathlib.Core.Logic.{⊎-elim}
 use mathlib.Core.Option.{Option}
@@ -11,7 +11,6 @@ use lib.Seq.{slice}
 use Rattle.utf8.specs.Lists.{joinMap, lastOr}
 use Rattle.utf8.proofs.Tests.{clash, either, or-right}
 use Rattle.utf8.proofs.Places.{any-append}
-use Rattle.model.specs.declared.Step.{Step}
 use Rattle.model.specs.declared.Metaspace.the-variants.{Absent}
 use Rattle.normalise.specs.Steps.{outputsOf}
 use Rattle.normalise.specs.Spaces.{metaspaceOutput}
@@ -19,7 +18,7 @@ use Rattle.normalise.specs.Normalise.{outgrows}
 use Rattle.normalise.specs.declared.Ran.{Ran}
 use Rattle.normalise.specs.declared.Ran.the-variants.{Given, InA, InB, TooLong}
 use Rattle.normalise.specs.inner.Run.{Run, standing, stepsRun, metaspaceRun, normalRun, isTooLong}
-use Rattle.normalise.proofs.StandLaws.{Stands, run-too-long, run-stands}
+use Rattle.normalise.proofs.StandLaws.{run-too-long, run-stands}
 use Rattle.merge.specs.inner.Turns.{Merged}
 use Rattle.sections.specs.Sections.{takenApart, Section, bytesOf}
 use Rattle.sections.specs.SecondList.{normalParts}

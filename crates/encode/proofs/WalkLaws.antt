@@ -1,19 +1,16 @@
 -- A walk through a text's sections, as the parts that are still to come. Assumes nothing.
-use Prim.Native.Nat.{ℕ, _+_, _*_, _-_, _<_, _≤_}
+use Prim.Native.Nat.{ℕ, _+_, _-_, _<_}
 use native.Mathlib.Omega.{arith}
 use mathlib.Core.Path.{_≡_, sym, ap, _∙_}
-use mathlib.Core.Bool.{Bool, true, false, cond}
+use mathlib.Core.Bool.{Bool, false}
 use mathlib.Core.List.{List, [], _∷_, _++_}
-use lib.Dec.{eqb}
-use lib.ListN.{length, length-take, length-drop, take}
-use lib.Seq.{slice}
+use lib.ListN.{length}
 use Rattle.model.specs.Model.{TokenList, contents}
 use Rattle.model.specs.Check.{badToken}
 use Rattle.sections.specs.Sections.{Item, token, plain, takenApart, Section, sections}
 use Rattle.sections.specs.Beginnings.{beginnings}
 use Rattle.sections.specs.inner.Walk.{nextItem, sectionsStart}
 use Rattle.sections.specs.declared.Cursor.{Cursor}
-use Rattle.sections.specs.declared.Cursor.the-variants.{Whole, Seek}
 use Rattle.sections.specs.declared.Next.{Next}
 use Rattle.sections.specs.declared.Next.the-variants.{Plain, Added, Finished}
 use Rattle.sections.proofs.SeekLaws.{first-sound}

@@ -1,4 +1,4 @@
-// Text to ids.
+// Text to ids. Defined in specs/Encode.antt, over the parts of a text in specs/Parts.antt.
 mod each;
 mod held;
 mod marks;

@@ -4,15 +4,13 @@ use Prim.Native.Nat.{ℕ, suc, _+_, _-_, _≤_, _<_}
 use native.Mathlib.Omega.{arith}
 use mathlib.Core.Path.{_≡_, refl, sym, ap, _∙_}
 use mathlib.Core.Bool.{Bool, true, false, not, cond, _&&_, _||_}
-use mathlib.Core.Logic.{_⊎_, ⊎-elim}
+use mathlib.Core.Logic.{⊎-elim}
 use mathlib.Core.List.{List, [], _∷_, _++_}
-use borrow.Author.Tests.{leb-true, le-leb}
-use lib.Dec.{leb}
 use lib.ListN.{length, take, drop, length-drop, take-append-drop}
 use lib.Seq.{drop-drop}
-use Rattle.utf8.specs.Lists.{isEmpty, any, startsWith, within}
+use Rattle.utf8.specs.Lists.{isEmpty, any, countFrom, startsWith, within}
 use Rattle.utf8.specs.Chars.{tail, hasForm, valid}
-use Rattle.utf8.proofs.Tests.{either, clash, and-left, and-right, and-both, or-left, or-right, or-also, within-low, within-high, within-in}
+use Rattle.utf8.proofs.Tests.{either, clash, and-left, and-right, and-both, or-left, or-right, within-low, within-high, within-in}
 use Rattle.utf8.proofs.Elements.{any-false-at, not-empty-long}
 use Rattle.utf8.proofs.Starts.{starts-length}
 use Rattle.utf8.proofs.Valid.{valid-append, valid-cut}
@@ -21,8 +19,9 @@ use Rattle.model.specs.Check.{emptyOrNoText, badToken}
 use Rattle.model.specs.Model.{TokenList, contents, tokenAt}
 use Rattle.sections.specs.Sections.{whiteLength}
 use Rattle.fragments.specs.Safe.{blocks, blockStart, blockEnd, block, blockedBy}
+use Rattle.fragments.specs.inner.Most.{most}
 use Rattle.fragments.specs.inner.Reach.{Edge, Fine, placesAhead, standsAt, stripsAt, blockedAhead, blockedIn, reachOf, reachAt, reach}
-use Rattle.fragments.proofs.ChoiceLaws.{both-ways, never, lt-or-le, chosen, positive}
+use Rattle.fragments.proofs.ChoiceLaws.{never, lt-or-le, chosen, positive}
 use Rattle.fragments.proofs.Bounded.{Holding, any-here, any-where, most-here, most-where}
 use Rattle.fragments.proofs.WhiteLaws.{trimmed, whiteEnd, trimmed-le, trims-behind, ends-before, same-end}
 
@@ -140,24 +139,30 @@ module _ (unguarded : Bool) (t : TokenList) (text : List ℕ) where
   reach-here from to s row l h o =
       omega (arith, reach-of s row o, most-here (reachOf unguarded t text s) 0 (length (contents t)) row (omega arith) (omega (arith, o .listed)), most-here (reachAt unguarded t text) from (to - from) s l (omega arith))
 
-  -- the occurrence whose block reaches furthest
-  pub record Furthest (from to n : ℕ) : Type 0 where
+  -- How far, by a value at a place and a row, the occurrences go whose rows pass a test,
+  abbrev pub furthestOf : (ℕ → Bool) → (ℕ → ℕ → ℕ) → ℕ → ℕ → ℕ
+  furthestOf test value from to =
+      most (λ (s : ℕ). most (λ (row : ℕ). cond (test row && (blocks unguarded (tokenAt t row) && standsAt t text s row)) (value s row) 0) (countFrom 0 (length (contents t)))) (countFrom from (to - from))
+
+  -- and the one that goes that far.
+  pub record Furthest (test : ℕ → Bool) (value : ℕ → ℕ → ℕ) (from to n : ℕ) : Type 0 where
     pub at : ℕ
     pub row : ℕ
     pub low : from ≤ at
     pub high : at < to
     pub occurs : Occurs at row
-    pub is : far at row ≡ n
+    pub passes : test row ≡ true
+    pub is : value at row ≡ n
 
-  pub reach-where : (from to : ℕ) → 0 < reach unguarded t text from to → Furthest from to (reach unguarded t text from to)
-  unfolding reach reachAt reachOf
-  reach-where from to h =
-      let v = most-where (reachAt unguarded t text) from (to - from) h in
+  pub furthest-where : (test : ℕ → Bool) (value : ℕ → ℕ → ℕ) (from to : ℕ) → 0 < furthestOf test value from to → Furthest test value from to (furthestOf test value from to)
+  furthest-where test value from to h =
+      let counted : ℕ → ℕ → ℕ = λ s row. cond (test row && (blocks unguarded (tokenAt t row) && standsAt t text s row)) (value s row) 0 in
+      let v = most-where (λ (s : ℕ). most (counted s) (countFrom 0 (length (contents t)))) from (to - from) h in
       let s = v .place in
-      let w = most-where (reachOf unguarded t text s) 0 (length (contents t)) (omega (arith, v .is)) in
+      let w = most-where (counted s) 0 (length (contents t)) (omega (arith, v .is)) in
       let row = w .place in
-      let b = blocks unguarded (tokenAt t row) && standsAt t text s row in
-      let shown : b ≡ true = positive b (far s row) (omega (arith, v .is, w .is)) in
+      let both = blocks unguarded (tokenAt t row) && standsAt t text s row in
+      let shown : (test row && both) ≡ true = positive (test row && both) (value s row) (omega (arith, v .is, w .is)) in
       record {
         at = s;
         row = row;
@@ -165,11 +170,20 @@ module _ (unguarded : Bool) (t : TokenList) (text : List ℕ) where
         high = omega (arith, v .low, v .high);
         occurs = record {
           listed = omega (arith, w .high);
-          blocking = and-left (blocks unguarded (tokenAt t row)) (standsAt t text s row) shown;
-          stands = and-right (blocks unguarded (tokenAt t row)) (standsAt t text s row) shown;
+          blocking = and-left (blocks unguarded (tokenAt t row)) (standsAt t text s row) (and-right (test row) both shown);
+          stands = and-right (blocks unguarded (tokenAt t row)) (standsAt t text s row) (and-right (test row) both shown);
         };
-        is = sym (chosen b (far s row) shown) ∙ w .is ∙ v .is;
+        passes = and-left (test row) both shown;
+        is = sym (chosen (test row && both) (value s row) shown) ∙ w .is ∙ v .is;
       }
+
+  -- the occurrence whose block reaches furthest
+  abbrev pub Reaching : ℕ → ℕ → ℕ → Type 0
+  Reaching from to n = Furthest (λ (row : ℕ). true) far from to n
+
+  pub reach-where : (from to : ℕ) → 0 < reach unguarded t text from to → Reaching from to (reach unguarded t text from to)
+  unfolding reach reachAt reachOf
+  reach-where from to h = furthest-where (λ (row : ℕ). true) far from to h
 
   -- ---- where a block begins and ends
 
@@ -262,24 +276,3 @@ module _ (unguarded : Bool) (t : TokenList) (text : List ℕ) where
         on w =
             clash clear
             (any-here (stripsAt t text) p (suc (whiteLength (drop p text))) (w .place) (omega (arith, w .low)) (omega (arith, w .high, same-end text p q l inside ep eq near)) (w .holds))
-
-    -- So a place is blocked from before it or from ahead of it.
-    pub blocked-by : (p : ℕ) → 0 < p → p ≤ length text → Edge text p → blockedIn unguarded t text p ≡ (leb p (reach unguarded t text 0 p) || blockedAhead t text p)
-    unfolding blockedAhead placesAhead
-    blocked-by p pos inside edge = both-ways (blockedIn unguarded t text p) (leb p (reach unguarded t text 0 p) || blockedAhead t text p) to from
-      where
-        to : blockedIn unguarded t text p ≡ true → (leb p (reach unguarded t text 0 p) || blockedAhead t text p) ≡ true
-        to e =
-            ⊎-elim (λ (l : reach unguarded t text 0 p < p). or-also (leb p (reach unguarded t text 0 p)) (⊎-elim (λ a. a) (λ a. clash (free p inside edge l a) e) (either (blockedAhead t text p))))
-            (λ (l : p ≤ reach unguarded t text 0 p). rw (le-leb p (reach unguarded t text 0 p) l))
-            (lt-or-le (reach unguarded t text 0 p) p)
-
-        ahead : blockedAhead t text p ≡ true → blockedIn unguarded t text p ≡ true
-        ahead e = found (any-where (stripsAt t text) p (suc (whiteLength (drop p text))) e)
-          where
-            found : Holding (stripsAt t text) p (suc (whiteLength (drop p text))) → blockedIn unguarded t text p ≡ true
-            found w = ahead-blocks p (w .place) p edge (w .holds) (w .low) (omega (arith, w .high)) (omega arith) (w .low)
-
-        from : (leb p (reach unguarded t text 0 p) || blockedAhead t text p) ≡ true → blockedIn unguarded t text p ≡ true
-        from e =
-            ⊎-elim (λ l. reach-blocks 0 p p pos (omega arith) (leb-true p (reach unguarded t text 0 p) l)) (λ l. ahead (rw l at e)) (either (leb p (reach unguarded t text 0 p)))

@@ -146,6 +146,3 @@ module _ (f : ℕ → ℕ) where
       let split : most f (countFrom from (s - from)) ≡ max (most f (countFrom from ((s - 1) - from))) (max (f (s - 1)) 0) =
       ap (λ (k : ℕ). most f (countFrom from k)) parts ∙ most-split from ((s - 1) - from) 1 ∙ ap (λ (k : ℕ). max (most f (countFrom from ((s - 1) - from))) (max (f k) 0)) last in
       omega (arith, split)
-
-  pub most-none : (from s far : ℕ) → s ≤ from → max far (most f (countFrom from (s - from))) ≡ far
-  most-none from s far h = let none-left : s - from ≡ 0 = omega arith in rw none-left (omega arith)

@@ -1,17 +1,12 @@
 -- Tests put together, and what is chosen by one. Assumes nothing.
 use Prim.Native.Nat.{ℕ, _≤_, _<_}
 use native.Mathlib.Omega.{arith}
-use mathlib.Core.Path.{_≡_, refl, sym, _∙_}
+use mathlib.Core.Path.{_≡_, refl}
 use mathlib.Core.Bool.{Bool, true, false, cond, _&&_, _||_}
 use mathlib.Core.Logic.{_⊎_, inl, inr, ⊎-elim}
 use borrow.Author.Tests.{ltb-true, ltb-false}
 use lib.Dec.{ltb}
 use Rattle.utf8.proofs.Tests.{either}
-
--- Two tests are equal if each holds where the other does.
-pub both-ways : (a b : Bool) → (a ≡ true → b ≡ true) → (b ≡ true → a ≡ true) → a ≡ b
-both-ways true b to from = sym (to refl)
-both-ways false b to from = ⊎-elim (λ e. from e ∙ sym e) (λ e. sym e) (either b)
 
 pub never : (a : Bool) → (a ≡ true → ⊥) → a ≡ false
 never a f = ⊎-elim (λ e. absurd (f e)) (λ e. e) (either a)

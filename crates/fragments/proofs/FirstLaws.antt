@@ -7,10 +7,9 @@ use mathlib.Core.Path.{_≡_, refl, sym, ap, _∙_}
 use mathlib.Core.Bool.{Bool, true, false, not, cond, _&&_, _||_}
 use mathlib.Core.Logic.{⊎-elim}
 use mathlib.Core.List.{List, [], _∷_}
-use borrow.Author.Tests.{eqb-true, eq-eqb, lt-ltb}
+use borrow.Author.Tests.{eqb-true, lt-ltb}
 use lib.Dec.{eqb, ltb}
 use lib.ListN.{length, drop, getD}
-use lib.Seq.{drop-cons}
 use Rattle.utf8.specs.Lists.{find, countFrom, startsWith}
 use Rattle.utf8.specs.Chars.{tail, hasForm}
 use Rattle.utf8.proofs.Tests.{clash, and-left, and-both, or-left, or-right}
@@ -20,6 +19,7 @@ use Rattle.units.specs.Kinds.{Crossing}
 use Rattle.units.specs.Units.{markCuts}
 use Rattle.units.specs.declared.WordSplit.{WordSplit}
 use Rattle.units.specs.declared.WordSplit.the-variants.{SpaceRuns, EveryMark, None}
+use Rattle.units.proofs.StartLaws.{no-mark-byte}
 use Rattle.fragments.specs.inner.Reach.{Edge, blockedIn}
 use Rattle.fragments.specs.inner.Search.{placeOr, firstFrom, safeIn}
 use Rattle.fragments.proofs.ChoiceLaws.{never, second-false, lt-or-le}
@@ -115,23 +115,13 @@ cuts-mark None noted text p e = clash refl e
 pub cuts-edge : (kind : WordSplit) (noted : List Crossing) (text : List ℕ) (p : ℕ) → markCuts kind noted true text p ≡ true → Edge text p
 cuts-edge kind noted text p e = mark-edge (drop p text) (cuts-mark kind noted text p e)
 
-mark-none : (b : ℕ) (u : List ℕ) → eqb 0x20 b ≡ false → eqb 0xE2 b ≡ false → startsWithMark true (b ∷ u) ≡ false
-unfolding startsWithMark markWidth mark space
-mark-none b u s m = rw (m, s)
-
-eqb-turn : (a b : ℕ) → eqb a b ≡ false → eqb b a ≡ false
-eqb-turn a b e = never (eqb b a) (λ t. clash e (ap (λ (x : ℕ). eqb a x) (eqb-true b a t) ∙ eq-eqb a a refl))
-
 -- At a byte that is no space and begins no mark nothing is cut.
 pub no-mark : (kind : WordSplit) (noted : List Crossing) (text : List ℕ) (p : ℕ) → p < length text → (eqb (getD text p 0) 0x20 || eqb (getD text p 0) 0xE2) ≡ false → markCuts kind noted true text p ≡ false
+unfolding startsWithMark
 no-mark kind noted text p h e =
-    never (markCuts kind noted true text p) (λ c. clash (none-starts (eqb-turn b 0x20 (or-left (eqb b 0x20) (eqb b 0xE2) e)) (eqb-turn b 0xE2 (or-right (eqb b 0x20) (eqb b 0xE2) e))) (sym (ap (startsWithMark true) (drop-cons text p 0 h)) ∙ cuts-mark kind noted text p c))
-  where
-    b : ℕ
-    b = getD text p 0
-
-    none-starts : eqb 0x20 b ≡ false → eqb 0xE2 b ≡ false → startsWithMark true (b ∷ drop (suc p) text) ≡ false
-    none-starts s m = mark-none b (drop (suc p) text) s m
+    let b = getD text p 0 in
+    never (markCuts kind noted true text p)
+    (λ c. clash (ap (ltb 0) (no-mark-byte true text p h (or-right (eqb b 0x20) (eqb b 0xE2) e) (or-left (eqb b 0x20) (eqb b 0xE2) e))) (cuts-mark kind noted text p c))
 
 -- ---- safe places
 

@@ -2,22 +2,22 @@
 -- lie too far back do not matter. Assumes nothing.
 use Prim.Native.Nat.{ℕ, _+_, _-_, _≤_, _<_, max}
 use native.Mathlib.Omega.{arith}
-use mathlib.Core.Path.{_≡_, refl, sym, ap, _∙_}
+use mathlib.Core.Path.{_≡_, refl, ap, _∙_}
 use mathlib.Core.Bool.{Bool, true, false, cond, _&&_}
-use mathlib.Core.Logic.{_⊎_, ⊎-elim}
+use mathlib.Core.Logic.{⊎-elim}
 use mathlib.Core.List.{List}
 use borrow.Author.Tests.{ltb-true, lt-ltb, le-leb, lt-leb, not-true}
 use lib.Dec.{leb, ltb}
 use lib.ListN.{length}
-use Rattle.utf8.proofs.Tests.{either, and-left, and-right, and-both}
+use Rattle.utf8.proofs.Tests.{either, and-left, and-both}
 use Rattle.model.specs.Model.{TokenList, contents, tokenAt}
 use Rattle.sections.specs.inner.Strips.{stopAt}
-use Rattle.fragments.specs.Safe.{blocks, blockEnd}
-use Rattle.fragments.specs.inner.Reach.{Edge, Fine, Longest, isAs, standsAt, plainFar, stripFar, furthest, reach, endOf, endAt, endBetween}
-use Rattle.fragments.proofs.ChoiceLaws.{lt-or-le, chosen, positive}
-use Rattle.fragments.proofs.Bounded.{most-here, most-where}
+use Rattle.fragments.specs.Safe.{blockEnd}
+use Rattle.fragments.specs.inner.Reach.{Edge, Fine, Longest, isAs, plainFar, stripFar, furthest, reach, endOf, endAt, endBetween}
+use Rattle.fragments.proofs.ChoiceLaws.{lt-or-le, chosen}
+use Rattle.fragments.proofs.Bounded.{most-here}
 use Rattle.fragments.proofs.WhiteLaws.{trimmed, whiteEnd, trimmed-le, trims-behind, same-end, stops-at}
-use Rattle.fragments.proofs.BlockLaws.{Standing, standing, Occurs, reach-here, reach-where}
+use Rattle.fragments.proofs.BlockLaws.{Standing, standing, Occurs, reach-here, Furthest, furthest-where, reach-where}
 
 module _ (unguarded : Bool) (t : TokenList) (text : List ℕ) where
   abbrev end : ℕ → ℕ → ℕ
@@ -37,38 +37,10 @@ module _ (unguarded : Bool) (t : TokenList) (text : List ℕ) where
   end-here strip from to s row l h o e =
       omega (arith, end-of strip s row o e, most-here (endOf unguarded t text strip s) 0 (length (contents t)) row (omega arith) (omega (arith, o .listed)), most-here (endAt unguarded t text strip) from (to - from) s l (omega arith))
 
-  record Last (strip : Bool) (from to n : ℕ) : Type 0 where
-    at : ℕ
-    row : ℕ
-    low : from ≤ at
-    high : at < to
-    occurs : Occurs unguarded t text at row
-    flag : isAs strip (tokenAt t row .rstrip) ≡ true
-    is : end at row ≡ n
-
-  end-where : (strip : Bool) (from to : ℕ) → 0 < endBetween unguarded t text strip from to → Last strip from to (endBetween unguarded t text strip from to)
+  end-where : (strip : Bool) (from to : ℕ) → 0 < endBetween unguarded t text strip from to
+      → Furthest unguarded t text (λ (row : ℕ). isAs strip (tokenAt t row .rstrip)) end from to (endBetween unguarded t text strip from to)
   unfolding endBetween endAt endOf
-  end-where strip from to h =
-      let v = most-where (endAt unguarded t text strip) from (to - from) h in
-      let s = v .place in
-      let w = most-where (endOf unguarded t text strip s) 0 (length (contents t)) (omega (arith, v .is)) in
-      let row = w .place in
-      let flag = isAs strip (tokenAt t row .rstrip) in
-      let both = blocks unguarded (tokenAt t row) && standsAt t text s row in
-      let shown : (flag && both) ≡ true = positive (flag && both) (end s row) (omega (arith, v .is, w .is)) in
-      record {
-        at = s;
-        row = row;
-        low = v .low;
-        high = omega (arith, v .low, v .high);
-        occurs = record {
-          listed = omega (arith, w .high);
-          blocking = and-left (blocks unguarded (tokenAt t row)) (standsAt t text s row) (and-right flag both shown);
-          stands = and-right (blocks unguarded (tokenAt t row)) (standsAt t text s row) (and-right flag both shown);
-        };
-        flag = and-left flag both shown;
-        is = sym (chosen (flag && both) (end s row) shown) ∙ w .is ∙ v .is;
-      }
+  end-where strip from to h = furthest-where unguarded t text (λ (row : ℕ). isAs strip (tokenAt t row .rstrip)) end from to h
 
   -- ---- where blocks end
 
@@ -166,13 +138,13 @@ module _ (unguarded : Bool) (t : TokenList) (text : List ℕ) where
 
     plain-reached : plainFar unguarded plain ≤ reach unguarded t text at p
     plain-reached =
-        ⊎-elim (λ (q : 0 < plain). let w = end-where false from p q in omega (arith, ap (plainFar unguarded) (w .is), far-plain (w .at) (w .row) (not-true (tokenAt t (w .row) .rstrip) (w .flag)), reach-here unguarded t text at p (w .at) (w .row) (omega (arith, w .low)) (w .high) (w .occurs)))
+        ⊎-elim (λ (q : 0 < plain). let w = end-where false from p q in omega (arith, ap (plainFar unguarded) (w .is), far-plain (w .at) (w .row) (not-true (tokenAt t (w .row) .rstrip) (w .passes)), reach-here unguarded t text at p (w .at) (w .row) (omega (arith, w .low)) (w .high) (w .occurs)))
         (λ q. omega (arith, plain-short plain)) (lt-or-le 0 plain)
 
     strip-reached : 0 < strip → whiteEnd text strip ≤ reach unguarded t text at p
     strip-reached q =
         let w = end-where true from p q in
-        omega (arith, ap (whiteEnd text) (w .is), far-strip (w .at) (w .row) (w .flag), reach-here unguarded t text at p (w .at) (w .row) (omega (arith, w .low)) (w .high) (w .occurs))
+        omega (arith, ap (whiteEnd text) (w .is), far-strip (w .at) (w .row) (w .passes), reach-here unguarded t text at p (w .at) (w .row) (omega (arith, w .low)) (w .high) (w .occurs))
 
     furthest-reached : furthest unguarded text stop plain strip ≤ reach unguarded t text at p
     unfolding furthest stripFar

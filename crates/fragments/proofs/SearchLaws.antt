@@ -3,7 +3,7 @@ use Prim.Native.Nat.{ℕ, suc, _+_, _-_, _≤_, _<_, max}
 use native.Mathlib.Omega.{arith}
 use mathlib.Core.Path.{_≡_, refl, sym, ap, _∙_}
 use mathlib.Core.Bool.{Bool, true, false, cond}
-use mathlib.Core.Logic.{_⊎_, ⊎-elim}
+use mathlib.Core.Logic.{⊎-elim}
 use mathlib.Core.List.{List, []}
 use mathlib.Core.Option.{none, some}
 use borrow.Author.Tests.{leb-true, leb-false}
@@ -22,7 +22,7 @@ use Rattle.fragments.specs.inner.Search.{Known, BlockedTo, FreeAt}
 use Rattle.fragments.proofs.ChoiceLaws.{lt-or-le, positive}
 use Rattle.fragments.proofs.Bounded.{most-split, find-where, find-nothing}
 use Rattle.fragments.proofs.WhiteLaws.{whiteEnd, whiteEnd-le}
-use Rattle.fragments.proofs.BlockLaws.{standing, Furthest, reach-where, reach-blocks, ahead-blocks, free, ahead-kept}
+use Rattle.fragments.proofs.BlockLaws.{standing, Reaching, reach-where, reach-blocks, ahead-blocks, free, ahead-kept}
 
 -- ---- a list without its rstrip column says the same of lstrip
 
@@ -50,7 +50,7 @@ module _ (unguarded : Bool) (t : TokenList) (text : List ℕ) where
   unfolding blockEnd
   reach-within fine from to = ⊎-elim (λ (h : 0 < reach unguarded t text from to). by (reach-where unguarded t text from to h)) (λ h. omega arith) (lt-or-le 0 (reach unguarded t text from to))
     where
-      by : Furthest unguarded t text from to (reach unguarded t text from to) → reach unguarded t text from to ≤ length text
+      by : Reaching unguarded t text from to (reach unguarded t text from to) → reach unguarded t text from to ≤ length text
       by f =
           let k = standing t text fine (f .at) (f .row) (f .occurs .listed) (f .occurs .stands) in
           let e = f .at + length (tokenAt t (f .row) .content) in

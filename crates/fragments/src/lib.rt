@@ -1,4 +1,4 @@
-// Where a text may be cut for workers.
+// Where a text may be cut for workers. Defined in specs/Fragments.antt, over the safe places of specs/Safe.antt.
 
 mod ahead;
 mod back;

@@ -111,10 +111,6 @@ module _ (pieces : List (List ℕ)) (lookup : List ℕ) where
       ∙ getD-append-add (firstBytes pieces lookup) (byteIds pieces lookup) b 0
       ∙ getD-row (byteId pieces lookup) 256 b 0 h
 
-  first-within : (b : ℕ) → firstByteStart pieces lookup b ≤ length lookup
-  unfolding firstByteStart
-  first-within b = front-within _ lookup
-
   -- the piece of an entry
   abbrev entry : ℕ → List ℕ
   entry i = piece pieces (getD lookup i 0)

@@ -1,4 +1,5 @@
-// Searches in the two sorted tables that begin from what was derived of them once.
+// Searches in the two sorted tables that begin from what was derived of them once. What that is stands in specs/Index.antt, where such a
+// search ends in specs/inner/Find.antt.
 use model::Found;
 use model::compare::equal;
 use model::fallback::NO_ID;

@@ -13,6 +13,7 @@ use lib.ListN.{length, take, drop, getD, set, length-append, length-drop, length
 use lib.Seq.{drop-cons, take-at, drop-at, length-take-le, take-append-le, take-suc, take-suc-set, drop-set-lt}
 use Rattle.utf8.specs.Lists.{neighboursFrom}
 use Rattle.utf8.proofs.Tests.{either}
+use Rattle.utf8.proofs.Lists.{drop-map}
 use Rattle.model.specs.Model.{Row}
 use Rattle.model.specs.declared.Found.{Found}
 use Rattle.model.specs.declared.Found.the-variants.{At, Nothing}
@@ -83,11 +84,6 @@ module _ {A B : Type 0} (f : A → B) where
   take-map zero l = refl
   take-map (suc n) [] = refl
   take-map (suc n) (x ∷ l) = ap {B = List B} (λ r. f x ∷ r) (take-map n l)
-
-  drop-map : (n : ℕ) (l : List A) → drop n (map f l) ≡ map f (drop n l)
-  drop-map zero l = refl
-  drop-map (suc n) [] = refl
-  drop-map (suc n) (x ∷ l) = drop-map n l
 
 pub kept-none : (rows kept : List (Option Ranked)) (n : ℕ) → length rows ≤ n → length kept ≤ n → Kept rows kept 0 n
 kept-none rows kept n h k =

@@ -1,8 +1,7 @@
 -- Laws of the whole merge, over any function from pairs to rows: one merge more changes nothing of its result, it ends where no
 -- merge is left, and lists that never have a row over their borders can be merged apart or joined. Assumes nothing.
-use Prim.Native.Nat.{ℕ, zero, suc, _≤_, _<_}
+use Prim.Native.Nat.{ℕ, zero, suc, _<_}
 use native.Mathlib.Omega.{arith}
-use native.Mathlib.Nat.{not-suc-le-zero}
 use mathlib.Core.Path.{_≡_, refl, sym, ap, _∙_, subst}
 use mathlib.Core.Bool.{Bool, true, false, cond}
 use mathlib.Core.List.{List, [], _∷_, _++_, map}
@@ -19,25 +18,6 @@ module _ (row : ℕ → ℕ → Option Row) where
   next-nil : nextMerge row [] ≡ none
   unfolding nextMerge candidates
   next-nil = refl
-
-  nil-stays : (n : ℕ) → mergedFor n row [] ≡ []
-  nil-stays zero = refl
-  nil-stays (suc n) = ap (λ (o : Option Candidate). mergeThen o (mergedFor n row) []) next-nil
-
-  -- Turns beyond the length change nothing.
-  enough : (m n : ℕ) (ids : List ℕ) → length ids ≤ m → length ids ≤ n → mergedFor m row ids ≡ mergedFor n row ids
-  enough zero n [] h k = sym (nil-stays n)
-  enough zero n (x ∷ ids) h k = absurd (not-suc-le-zero h)
-  enough (suc m) zero [] h k = nil-stays (suc m)
-  enough (suc m) zero (x ∷ ids) h k = absurd (not-suc-le-zero k)
-  enough (suc m) (suc n) ids h k = go (enough m n) (nextMerge row ids) refl
-    where
-      go : ((l : List ℕ) → length l ≤ m → length l ≤ n → mergedFor m row l ≡ mergedFor n row l) → (o : Option Candidate) → nextMerge row ids ≡ o
-          → mergeThen o (mergedFor m row) ids ≡ mergeThen o (mergedFor n row) ids
-      go less none e = refl
-      go less (some c) e =
-          let shorter : suc (length (mergedAt c ids)) ≡ length ids = merged-shorter row (next-found row ids c e) in
-          less (mergedAt c ids) (omega arith) (omega arith)
 
   -- The next merge leads to the same result.
   pub merged-step : (ids : List ℕ) (c : Candidate) → nextMerge row ids ≡ some c → merged row ids ≡ merged row (mergedAt c ids)
@@ -69,13 +49,6 @@ module _ (row : ℕ → ℕ → Option Row) where
           go (some c) e =
               let shorter : suc (length (mergedAt c ids)) ≡ length ids = merged-shorter row (next-found row ids c e) in
               step ids c e (less (mergedAt c ids) (omega arith))
-
-  -- The result has no merge left.
-  pub merged-ended : (ids : List ℕ) → nextMerge row (merged row ids) ≡ none
-  merged-ended =
-      by-merges (λ (ids : List ℕ). nextMerge row (merged row ids) ≡ none)
-      (λ ids e. ap (nextMerge row) (merged-none ids e) ∙ e)
-      (λ ids c e h. ap (nextMerge row) (merged-step ids c e) ∙ h)
 
   -- ---- lists side by side
 

@@ -1,4 +1,4 @@
-// The starting ids of a unit and their ranked merge.
+// The starting ids of a unit and their ranked merge. Defined in specs/Start.antt and specs/Merge.antt.
 mod kept;
 pub mod ranked;
 pub mod start;

@@ -61,10 +61,10 @@ few-offsets bytes offsets e =
 pub piece-row : (bytes offsets : List ℕ) → wrongPieceSizes bytes offsets ≡ false → 0 < length offsets
 piece-row bytes offsets e = not-empty offsets (or-left (isEmpty offsets) (ltb 524288 (length offsets - 1)) (few-offsets bytes offsets e))
 
-piece-limit : (bytes offsets : List ℕ) → wrongPieceSizes bytes offsets ≡ false → length offsets - 1 ≤ 524288
+pub piece-limit : (bytes offsets : List ℕ) → wrongPieceSizes bytes offsets ≡ false → length offsets - 1 ≤ 524288
 piece-limit bytes offsets e = ltb-false 524288 (length offsets - 1) (or-right (isEmpty offsets) (ltb 524288 (length offsets - 1)) (few-offsets bytes offsets e))
 
-byte-limit : (bytes offsets : List ℕ) → wrongPieceSizes bytes offsets ≡ false → length bytes ≤ 8388608
+pub byte-limit : (bytes offsets : List ℕ) → wrongPieceSizes bytes offsets ≡ false → length bytes ≤ 8388608
 unfolding wrongPieceSizes
 byte-limit bytes offsets e =
     ltb-false 8388608 (length bytes)

@@ -1,4 +1,5 @@
-// The model's types, and its check. The tables themselves are lent as slices, one a column; what they mean is in specs/Model.antt.
+// The model's types, and its check. The tables themselves are lent as slices, one a column; what they mean is in specs/Model.antt
+// and specs/Mark.antt, the check in specs/Check.antt, what a call leaves in specs/Answers.antt.
 use fallback::bad_fallback;
 use lookup::bad_lookup;
 use offsets::offsets_astray;

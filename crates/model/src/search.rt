@@ -11,7 +11,7 @@ ghost use mathlib.Core.Path.{_≡_};
 ghost use Prim.Native.Nat.{min};
 ghost use lib.ListN.{length};
 ghost use Rattle.model.specs.Model.{strings};
-ghost use Rattle.model.specs.inner.Search.{searched, pieceOrder, foundPiece, rowOrder, foundRow};
+ghost use Rattle.model.specs.inner.Search.{searched, pieceOrder, foundPiece, rowOrder};
 
 // The place in the lookup list, from `from` on and before `to`, of an id whose piece is `key`.
 pub fn find_piece_between(
@@ -79,11 +79,4 @@ pub fn find_row_between(
         }
     }
     Found::Nothing
-}
-
-// The place of the merge row of the pair `l`, `r`.
-pub fn find_row(left: &[u32], right: &[u32], l: u32, r: u32) -> Found
-    ensures { λ f. ⌜ f ≡ foundRow (now (left .entry)) (now (right .entry)) l r ⌝ }
-{
-    find_row_between(left, right, l, r, 0, left.len())
 }

@@ -1,4 +1,4 @@
-// The normalization: steps and metaspace.
+// The normalization: steps and metaspace. Defined in specs/Steps.antt and specs/Spaces.antt, the call in specs/Normalise.antt.
 
 mod collapse;
 mod copy;

@@ -1,4 +1,4 @@
-// What is derived of a model once: the byte-adjacency rows, and the index.
+// What is derived of a model once: the byte-adjacency rows, and the index. Defined in specs/Prepare.antt, its words in specs/Layout.antt.
 
 mod derive;
 mod fill;

@@ -14,15 +14,12 @@ use Rattle.utf8.specs.Lists.{below}
 use Rattle.utf8.proofs.Tests.{either}
 use Rattle.utf8.proofs.Places.{getD-inside, slice-none, length-countFrom, getD-countFrom}
 use Rattle.model.specs.Model.{TokenList, Token, tokenAt, contents, stepString}
-use Rattle.model.specs.declared.Found.{Found}
-use Rattle.model.specs.inner.Search.{foundId}
 use Rattle.model.proofs.StringLaws.{length-strings, string-is, string-past}
 use Rattle.sections.specs.Matches.{Match, longestAt}
 use Rattle.sections.specs.inner.Seek.{rowIn, rowAt}
 use Rattle.records.specs.Records.{noToken, contentOf, tokenOf, columnsOf, recordsOf, longestOf, longestRow, standing}
 use Rattle.records.specs.inner.Rows.{standingOf}
 use Rattle.records.specs.declared.AddedToken.{AddedToken}
-use Rattle.records.specs.declared.Longest.{Longest}
 use Rattle.records.proofs.RowLaws.{standing-empty}
 use Rattle.records.proofs.ColumnLaws.{same-token, columns-contents, content-at, columns-token, standing-by}
 
@@ -109,8 +106,3 @@ module _ (t : TokenList) where
       row-of : (best : Option (ℕ × List ℕ)) → longestRow (longestOf best) ≡ rowIn best
       row-of none = refl
       row-of (some c) = refl
-
-  -- So what the two functions promise of one text is one row.
-  pub same-answer : (text : List ℕ) (r : Longest) (f : Found) → r ≡ longestOf (longestAt (contents (columnsOf (t .bytes) (recordsOf t))) text) → foundId f ≡ rowAt (contents t) text
-      → longestRow r ≡ foundId f
-  same-answer text r f p q = ap longestRow p ∙ same-row text ∙ sym q

@@ -1,16 +1,16 @@
 -- Laws of where tokens end and of what strips take.
 use Prim.Native.Nat.{ℕ, _+_, _-_, _≤_, max}
 use native.Mathlib.Omega.{arith}
-use mathlib.Core.Path.{_≡_, refl, ap, _∙_}
+use mathlib.Core.Path.{_≡_, ap, _∙_}
 use mathlib.Core.Bool.{Bool, true, false}
 use mathlib.Core.List.{List}
 use lib.ListN.{length, take, drop, length-take, length-drop}
 use lib.Seq.{slice, take-length, drop-drop}
 use Rattle.utf8.specs.WhiteSpace.{trimStart, trimEnd}
 use Rattle.utf8.proofs.Trim.{trimStart-trimmed, trimEnd-trimmed}
-use Rattle.model.specs.Model.{TokenList, contents, tokenAt}
+use Rattle.model.specs.Model.{contents}
 use Rattle.sections.specs.Matches.{Match, end}
-use Rattle.sections.specs.Sections.{whiteLength, stopBefore, startAfter}
+use Rattle.sections.specs.Sections.{whiteLength}
 use Rattle.sections.specs.inner.Strips.{stopAt, startAt, endWithin}
 
 -- The part from a place to the end.
@@ -23,16 +23,6 @@ rest-behind text rest place n e = part-end rest n ∙ rw (e, part-end text place
 pub end-within : (contents : List (List ℕ)) (text rest : List ℕ) (match : Match) → rest ≡ drop (end contents match) text → length text - length rest ≡ endWithin contents text match
 unfolding endWithin
 end-within contents text rest match e = omega (arith, ap length e, length-drop (end contents match) text)
-
--- What a match's strips take, by the flags of its token.
-module _ (t : TokenList) (text : List ℕ) (match : Match) where
-  pub stop-by-flag : (start : ℕ) → stopBefore t text start match ≡ stopAt (tokenAt t (match .row) .lstrip) text start (match .place)
-  unfolding stopBefore stopAt
-  stop-by-flag start = refl
-
-  pub start-by-flag : startAfter t text match ≡ startAt (tokenAt t (match .row) .rstrip) text (end (contents t) match)
-  unfolding startAfter startAt
-  start-by-flag = refl
 
 module _ (text : List ℕ) (start place : ℕ) where
   pub stop-plain : (strip : Bool) → strip ≡ false → place ≡ stopAt strip text start place

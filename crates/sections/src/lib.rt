@@ -1,4 +1,5 @@
-// Added tokens in a text, and the sections between them.
+// Added tokens in a text, and the sections between them. Defined in specs/Matches.antt and specs/Sections.antt, for the second list in
+// specs/SecondList.antt.
 
 pub mod first;
 pub mod seek;

@@ -15,7 +15,7 @@ use Rattle.utf8.specs.Chars.{valid}
 use Rattle.utf8.proofs.Tests.{either, clash, and-left, and-right, or-right}
 use Rattle.utf8.proofs.Places.{any-one, any-found, any-next, any-ended, length-countFrom, getD-countFrom}
 use Rattle.utf8.proofs.Starts.{starts-front}
-use Rattle.model.specs.Mark.{mark, space, markWidth, startsWithMark, endsWithMark}
+use Rattle.model.specs.Mark.{mark, markWidth, startsWithMark, endsWithMark}
 use Rattle.units.specs.Kinds.{crossesAt, crossingAt, holdsMark, isTangled}
 use Rattle.units.specs.Derived.{placesWithin}
 use Rattle.units.specs.Next.{placesAbove, nextUnit}
@@ -191,9 +191,6 @@ module _ (bytes : List ℕ) where
 
   first-of : Searched (crossesAt bytes) bytes 0 (nextUnit (crossesAt bytes) bytes 0)
   first-of = rw first-search (searched (crossesAt bytes) bytes 0 (omega arith))
-
-  whole-places : filter (crossesAt bytes) (countFrom 0 (length bytes - 0)) ≡ filter (crossesAt bytes) (below (length bytes))
-  whole-places = rw sub-zero
 
   places-invalid : valid bytes ≡ false → placesWithin bytes ≡ []
   unfolding placesWithin

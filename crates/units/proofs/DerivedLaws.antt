@@ -7,26 +7,24 @@ use mathlib.Core.Path.{_≡_, refl, sym, ap, ap₂, _∙_}
 use mathlib.Core.Bool.{Bool, true, false, not, cond, _&&_, _||_}
 use mathlib.Core.Logic.{⊎-elim}
 use mathlib.Core.List.{List, [], _∷_, _++_, map}
-use borrow.Author.Tests.{ltb-false}
 use lib.Dec.{eqb, ltb}
 use lib.ListN.{length, getD, take, length-drop, length-take}
 use lib.Seq.{slice}
-use Rattle.utf8.specs.Lists.{isEmpty, filter, joinMap, numberedFrom, neighbours, countFrom, below}
+use Rattle.utf8.specs.Lists.{filter, joinMap, numberedFrom, neighbours, countFrom, below}
 use Rattle.utf8.specs.Chars.{valid}
-use Rattle.utf8.proofs.Tests.{either, or-left, or-right}
+use Rattle.utf8.proofs.Tests.{either, or-left}
 use Rattle.model.specs.Model.{Model, strings, piecesOf, stepsOf}
 use Rattle.model.specs.Answers.{zeros}
-use Rattle.model.specs.Check.{stringTooLong, wrongPieceSizes, wrongRowSizes, wrongListSizes, wrongStepSizes, wrongSizes, textTooLong, modelTests, checkNumber}
+use Rattle.model.specs.Check.{wrongPieceSizes, wrongRowSizes, wrongListSizes, wrongStepSizes, wrongSizes, textTooLong, modelTests, checkNumber}
 use Rattle.model.proofs.StringLaws.{length-strings}
+use Rattle.model.proofs.Accepted.{piece-limit, byte-limit}
 use Rattle.units.specs.Kinds.{crossesAt, crossings, kindOf}
 use Rattle.units.specs.Units.{holdsPair, markCuts, byteBefore, punctuationCuts, cutBy, cut}
 use Rattle.units.specs.Adjacency.{adjacency, pairNoted}
 use Rattle.units.specs.Derived.{Place, placesWithin, placesIn, crossingPlaces, crossingOf, notedOf, placeWords, notedWords, placesOf, namedCrossings, noting}
-use Rattle.units.specs.Next.{nextUnit}
 use Rattle.units.specs.declared.WordSplit.{WordSplit}
 use Rattle.units.specs.declared.WordSplit.the-variants.{SpaceRuns, EveryMark, None}
 use Rattle.units.proofs.AdjacencyLaws.{Small, pair-noted}
-use Rattle.units.proofs.NextLaws.{next-agrees}
 use Rattle.units.proofs.NotingLaws.{crossings-by-place}
 
 -- ---- places that fit two words
@@ -91,15 +89,10 @@ parts-short bytes (p ∷ ps) zero = part-short (p .0) (p .1) bytes
 parts-short bytes (p ∷ ps) (suc i) = parts-short bytes ps i
 
 pub fit-accepted : (bytes offsets : List ℕ) → wrongPieceSizes bytes offsets ≡ false → Fit (crossingPlaces (strings bytes offsets))
-unfolding wrongPieceSizes crossingPlaces strings
+unfolding crossingPlaces strings
 fit-accepted bytes offsets e =
-    let many = ltb 524288 (length offsets - 1) in
-    let large = ltb 8388608 (length bytes) in
-    let sizes : (isEmpty offsets || many || large) ≡ false = or-left (isEmpty offsets || many || large) (stringTooLong offsets) e in
-    let few : length offsets - 1 ≤ 524288 = ltb-false 524288 (length offsets - 1) (or-right (isEmpty offsets) many (or-left (isEmpty offsets || many) large sizes)) in
-    let small : length bytes ≤ 8388608 = ltb-false 8388608 (length bytes) (or-right (isEmpty offsets || many) large sizes) in
-    fit-pieces 0 (strings bytes offsets) (omega (arith, length-strings bytes offsets))
-    (λ i. let short = parts-short bytes (neighbours offsets) i in omega (arith, short, small))
+    fit-pieces 0 (strings bytes offsets) (omega (arith, length-strings bytes offsets, piece-limit bytes offsets e))
+    (λ i. omega (arith, parts-short bytes (neighbours offsets) i, byte-limit bytes offsets e))
 
 pub piece-sizes-fine : (m : Model) → wrongSizes m ≡ false → wrongPieceSizes (m .pieceBytes) (m .pieceOffsets) ≡ false
 unfolding wrongSizes
@@ -138,9 +131,3 @@ cut-derived m e raw section h p =
     ap₂ (λ (a b : Bool). ltb 0 p && (a || b))
     (marks-derived (piecesOf m) (fit-accepted (m .pieceBytes) (m .pieceOffsets) e) (kindOf m) raw section p)
     (punctuation-derived (piecesOf m) (kindOf m) raw section h p)
-
--- So the next unit is the model's.
-pub next-derived : (m : Model) → wrongPieceSizes (m .pieceBytes) (m .pieceOffsets) ≡ false → (raw : Bool) (section : List ℕ) → Small section → (from : ℕ)
-    → nextUnit (cutBy (kindOf m) (namedCrossings (piecesOf m) (noting (piecesOf m) (kindOf m) .noted) (noting (piecesOf m) (kindOf m) .count)) (pairNoted (adjacency (piecesOf m))) raw section) section from
-    ≡ nextUnit (cut m raw section) section from
-next-derived m e raw section h from = next-agrees _ (cut m raw section) (cut-derived m e raw section h) section from

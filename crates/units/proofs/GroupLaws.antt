@@ -153,12 +153,6 @@ module _ (s : List ℕ) (pieces : List (List ℕ)) (raw : Bool) (test coarse : �
       (λ t. close f (grouped k f f (suc f) n false (omega arith) (omega arith) (omega arith) l (inl refl) (λ v. absurd (false≢true v))))
       (parts-join test s k f (suc f) n (omega arith) (omega arith) l)
     where
-      fine : List ℕ
-      fine = filter test (countFrom (suc f) k)
-
-      rough : List ℕ
-      rough = filter coarse (countFrom (suc f) k)
-
       go : (x y : Bool) → test f ≡ x → coarse f ≡ y
           → Open virtual g a (partsFrom test a (suc f) k n s) (partsFrom coarse g (suc f) k n s)
           → (test f ≡ true → Open false g f (partsFrom test f (suc f) k n s) (partsFrom coarse g (suc f) k n s))

@@ -45,17 +45,6 @@ module _ (cuts : ℕ → Bool) (section : List ℕ) where
   pub next-past : (from : ℕ) → length section ≤ from → nextUnit cuts section from ≡ length section
   next-past from h = search-start from ∙ search-ended (from + 1) (omega arith)
 
--- ---- two tests that agree
-
-module _ (f g : ℕ → Bool) (same : (p : ℕ) → f p ≡ g p) where
-  find-agrees : (places : List ℕ) → find f places ≡ find g places
-  find-agrees [] = refl
-  find-agrees (p ∷ ps) = rw (same p, find-agrees ps)
-
-  pub next-agrees : (section : List ℕ) (from : ℕ) → nextUnit f section from ≡ nextUnit g section from
-  unfolding nextUnit orEnd
-  next-agrees section from = rw (find-agrees (countFrom (suc from) (length section - suc from)))
-
 -- ---- the first of a row of places that pass
 
 data First (cuts : ℕ → Bool) (k n : ℕ) : Type 0 where

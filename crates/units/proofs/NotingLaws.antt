@@ -5,7 +5,7 @@ use native.Mathlib.Numerals.{add-one}
 use native.Mathlib.Omega.{arith}
 use mathlib.Core.Path.{_≡_, refl, sym, ap, ap₂, _∙_}
 use mathlib.Core.Bool.{Bool, true, false, cond, _||_}
-use mathlib.Core.List.{List, [], _∷_, _++_, map, append-assoc}
+use mathlib.Core.List.{List, [], _∷_, _++_, map, append-assoc, map-append}
 use borrow.Author.Tests.{lt-ltb, le-ltb}
 use lib.Dec.{ltb}
 use lib.ListN.{length, getD, take, drop, set, length-append, length-drop, length-map, drop-of-length-le}
@@ -13,6 +13,7 @@ use lib.Seq.{drop-cons, take-suc, take-all, length-take-le, set-at}
 use Rattle.utf8.specs.Lists.{any, filter, joinMap, numbered, numberedFrom, below}
 use Rattle.utf8.specs.Chars.{valid}
 use Rattle.utf8.proofs.Tests.{or-also}
+use Rattle.utf8.proofs.Elements.{any-map}
 use Rattle.utf8.proofs.Places.{any-one, any-append, length-numbered, getD-numbered}
 use Rattle.model.specs.Answers.{zeros}
 use Rattle.model.specs.Model.{piece}
@@ -26,14 +27,6 @@ use Rattle.units.specs.inner.Crossed.{crossed, noWords, notedAt}
 use Rattle.units.proofs.CrossingLaws.{none-within, one-within, TangledFirst, tangled-first, tangled-within}
 
 -- ---- the places are those of the crossings
-
-map-append : {A B : Type 0} (f : A → B) (xs ys : List A) → map f (xs ++ ys) ≡ map f xs ++ map f ys
-map-append f [] ys = refl
-map-append f (x ∷ xs) ys = ap (λ (l : List _). f x ∷ l) (map-append f xs ys)
-
-any-mapped : {A B : Type 0} (test : B → Bool) (f : A → B) (xs : List A) → any test (map f xs) ≡ any (λ (x : A). test (f x)) xs
-any-mapped test f [] = refl
-any-mapped test f (x ∷ xs) = ap (λ (b : Bool). test (f x) || b) (any-mapped test f xs)
 
 module _ (pieces : List (List ℕ)) where
   -- the places of one piece
@@ -74,7 +67,7 @@ module _ (pieces : List (List ℕ)) where
 
   tangled-crossings : any isTangled (crossings pieces) ≡ any tangledAt (crossingPlaces pieces)
   unfolding tangledAt
-  tangled-crossings = ap (any isTangled) crossings-by-place ∙ any-mapped isTangled (crossingOf pieces) (crossingPlaces pieces)
+  tangled-crossings = ap (any isTangled) crossings-by-place ∙ any-map isTangled (crossingOf pieces) (crossingPlaces pieces)
 
   count-crossings : length (crossings pieces) ≡ length (crossingPlaces pieces)
   count-crossings = ap length crossings-by-place ∙ length-map (crossingPlaces pieces) (crossingOf pieces)

@@ -6,12 +6,9 @@ use mathlib.Core.Bool.{Bool, true, false, not, cond, _&&_}
 use mathlib.Core.List.{List, [], _∷_}
 use borrow.Author.Tests.{not-true, not-false}
 use lib.ListN.{length, getD, take}
-use Rattle.utf8.specs.Lists.{isEmpty}
-use Rattle.model.specs.Model.{Model, contents, stepsOf}
 use Rattle.model.specs.declared.Step.{Step}
 use Rattle.model.specs.declared.Metaspace.{Metaspace}
-use Rattle.units.specs.Kinds.{splits, isPrependMark, isSpaceReplace, isPresent, prependOf, rawPathOf, isNone, kindOf, rawPath}
-use Rattle.units.specs.Derived.{rawPathBy}
+use Rattle.units.specs.Kinds.{splits, isPrependMark, isSpaceReplace, isPresent, prependOf, rawPathOf, isNone}
 use Rattle.units.specs.declared.WordSplit.{WordSplit}
 use Rattle.units.specs.declared.RawPrepend.the-variants as prepend
 use Rattle.units.specs.declared.RawPath.the-variants as raw
@@ -68,8 +65,3 @@ module _ (b : Bool) (kind : WordSplit) (e : b ≡ not (isNone kind)) where
 
   pub divided-not : b ≡ false → isNone kind ≡ true
   divided-not f = not-false (isNone kind) (sym e ∙ f)
-
--- The raw path of a model is that of its kind and its second list.
-pub raw-path-is : (m : Model) → rawPathBy (kindOf m) (isEmpty (contents (m .second))) (m .stepBytes) (stepsOf m) (m .metaspace) ≡ rawPath m
-unfolding rawPathBy rawPath
-raw-path-is m = refl

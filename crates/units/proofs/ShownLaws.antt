@@ -10,6 +10,7 @@ use lib.Dec.{eqb, ltb}
 use lib.ListN.{length, drop, getD}
 use lib.Seq.{drop-append-seam}
 use Rattle.utf8.specs.Lists.{all, any, join, joinMap, countFrom, startsWith, endsWith}
+use Rattle.utf8.proofs.Lists.{drop-map}
 use Rattle.utf8.proofs.Tests.{clash, and-left, and-right, and-both, or-right}
 use Rattle.utf8.proofs.Characters.{startsInTail}
 use Rattle.utf8.proofs.Joins.{append-cancel, joinMap-append, starts-rest, ends-append, oneStart, begins-between}
@@ -156,11 +157,6 @@ shown-start raw (a ∷ s) (b ∷ y) t e none c = go (λ q. shown-start raw s y t
         and-both (eq-eqb b a (sym (ap (λ (l : List ℕ). getD l 0 0) whole))) (rest (ap (drop 1) whole))
 
 -- ---- what a spelling ends with
-
-drop-map : (f : ℕ → List ℕ) (n : ℕ) (s : List ℕ) → drop n (map f s) ≡ map f (drop n s)
-drop-map f zero s = refl
-drop-map f (suc n) [] = refl
-drop-map f (suc n) (b ∷ s) = drop-map f n s
 
 map-back : (f : ℕ → List ℕ) (s : List ℕ) (front back : List (List ℕ)) → map f s ≡ front ++ back → back ≡ map f (drop (length front) s)
 map-back f s front back e = sym (drop-append-seam front back) ∙ ap (drop (length front)) (sym e) ∙ drop-map f (length front) s

@@ -36,7 +36,7 @@ module _ (raw : Bool) (section : List ℕ) (p : ℕ) where
   pub no-mark-past : length section ≤ p → markWidth raw (drop p section) ≡ 0
   no-mark-past h = ap (markWidth raw) (drop-of-length-le section h) ∙ no-mark-in-nothing raw
 
-  no-mark-byte : p < length section → eqb (getD section p 0) 0xE2 ≡ false → eqb (getD section p 0) 0x20 ≡ false → markWidth raw (drop p section) ≡ 0
+  pub no-mark-byte : p < length section → eqb (getD section p 0) 0xE2 ≡ false → eqb (getD section p 0) 0x20 ≡ false → markWidth raw (drop p section) ≡ 0
   no-mark-byte h e f = ap (markWidth raw) (drop-cons section p 0 h) ∙ no-mark-of raw (getD section p 0) (drop (suc p) section) (other-way (getD section p 0) 0xE2 e) (other-way (getD section p 0) 0x20 f)
 
   -- the width that was measured on the rest of the section

@@ -3,7 +3,6 @@ use model::tables::string_at;
 use model::tables::string_count;
 use utf8::bytes::wide;
 ghost use mathlib.Core.Path.{_≡_};
-ghost use Prim.Native.Nat.{ℕ};
 ghost use Rattle.utf8.specs.Lists.{neighbours};
 ghost use Rattle.model.specs.Model.{strings};
 ghost use Rattle.units.specs.Adjacency.{adjacency, pairNoted};

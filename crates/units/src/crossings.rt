@@ -11,7 +11,7 @@ use model::tables::string_count;
 use utf8::chars::is_valid;
 ghost use mathlib.Core.Path.{_≡_};
 ghost use Prim.Native.Nat.{_+_, _*_, _%_, _<_};
-ghost use lib.ListN.{length, set};
+ghost use lib.ListN.{length};
 ghost use Rattle.model.specs.Model.{strings};
 ghost use Rattle.model.specs.declared.Metaspace.the-variants.{Absent};
 ghost use Rattle.units.specs.Kinds.{crossesAt, crossingAt, holdsMark, isTangled, splits, crossings, wordSplit};

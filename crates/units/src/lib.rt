@@ -1,4 +1,5 @@
-// How a model's sections divide into units that are merged one by one.
+// How a model's sections divide into units that are merged one by one. Defined in specs/Kinds.antt, the kind of split and the raw path, and
+// specs/Units.antt, where units start; what is derived once is in specs/Derived.antt and specs/Adjacency.antt.
 
 pub mod adjacency;
 pub mod crossings;

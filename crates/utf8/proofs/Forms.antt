@@ -103,7 +103,7 @@ apart [] = true
 apart ([] ∷ forms) = false
 apart ((first ∷ form) ∷ forms) = all (beginsApart first) forms && apart forms
 
-within-apart : (range first : Range) (form : Form) (b : ℕ) → beginsApart range (first ∷ form) ≡ true → within range b ≡ true → within first b ≡ false
+pub within-apart : (range first : Range) (form : Form) (b : ℕ) → beginsApart range (first ∷ form) ≡ true → within range b ≡ true → within first b ≡ false
 within-apart range first form b e h = ⊎-elim low high (either (ltb (range .1) (first .0)))
   where
     low : ltb (range .1) (first .0) ≡ true → within first b ≡ false
@@ -129,7 +129,7 @@ abbrev pub firstOf : Form → Range
 firstOf [] = (1, 0)
 firstOf (first ∷ form) = first
 
-none-in-empty {ℓ} : {A : Type ℓ} (b : ℕ) → within (1, 0) b ≡ true → A
+pub none-in-empty {ℓ} : {A : Type ℓ} (b : ℕ) → within (1, 0) b ≡ true → A
 none-in-empty b h = absurd (omega (arith, within-low (1, 0) b h, within-high (1, 0) b h))
 
 apart-at : (range : Range) (forms : List Form) → all (beginsApart range) forms ≡ true

@@ -7,7 +7,7 @@ use mathlib.Core.Bool.{Bool, true, false, not, cond}
 use mathlib.Core.Logic.{⊎-elim}
 use mathlib.Core.List.{List, [], _∷_, _++_, map, append-assoc}
 use mathlib.Core.Option.{some, Option·none-ne-some, Option·some-injective}
-use borrow.Author.Tests.{eq-eqb, ltb-true, ltb-false, lt-ltb}
+use borrow.Author.Tests.{ltb-true, ltb-false, lt-ltb}
 use lib.Dec.{ltb}
 use lib.ListN.{length, take, drop, getD, length-append, length-take, length-drop, take-append-drop}
 use lib.Seq.{drop-append-seam, drop-at, getD-take}
@@ -53,10 +53,6 @@ module _ {ℓ κ} {A : Type ℓ} {B : Type κ} (f : A → List B) where
   joinMap-join (xs ∷ xss) = ap (λ (l : List B). joinMap f xs ++ l) (joinMap-join xss) ∙ sym (joinMap-append xs (join xss))
 
 -- ---- what a text starts and ends with
-
-pub starts-append : (p t : List ℕ) → startsWith p (p ++ t) ≡ true
-starts-append [] t = refl
-starts-append (x ∷ p) t = and-both (eq-eqb x x refl) (starts-append p t)
 
 pub starts-rest : (p t : List ℕ) → startsWith p t ≡ true → t ≡ p ++ drop (length p) t
 starts-rest p t e = sym (take-append-drop (length p) t) ∙ ap (λ (l : List ℕ). l ++ drop (length p) t) (starts-front p t e)

@@ -5,7 +5,7 @@ use native.Mathlib.Omega.{arith}
 use native.Mathlib.Numerals.{add-one}
 use mathlib.Core.Path.{_≡_, refl, sym, ap, _∙_}
 use mathlib.Core.Bool.{Bool, _&&_, _||_, and-assoc}
-use mathlib.Core.List.{List, [], _∷_, _++_, append-assoc}
+use mathlib.Core.List.{List, [], _∷_, _++_, map, append-assoc}
 use lib.ListN.{length, take, drop, getD, length-drop}
 use lib.Seq.{take-all, drop-cons}
 use Rattle.utf8.specs.Lists.{all, any, lastOr, join}
@@ -38,3 +38,9 @@ module _ {ℓ} {A : Type ℓ} where
   all-append test [] ys = refl
   all-append test (x ∷ xs) ys =
       ap (λ (b : Bool). test x && b) (all-append test xs ys) ∙ sym (and-assoc (test x) (all test xs) (all test ys))
+
+module _ {A B : Type 0} (f : A → B) where
+  pub drop-map : (n : ℕ) (l : List A) → drop n (map f l) ≡ map f (drop n l)
+  drop-map zero l = refl
+  drop-map (suc n) [] = refl
+  drop-map (suc n) (x ∷ l) = drop-map n l

@@ -128,13 +128,6 @@ pub(crate) fn number_of(s: &[u8], w: usize) -> u32
     joined(joined(joined(first - 0xF0, s[1]), s[2]), s[3])
 }
 
-// The number of the character at the head of s, 0 where none stands there.
-pub fn code_point(s: &[u8]) -> u32
-    ensures { λ r. ⌜ r ≡ codePoint (take (charWidth (now (s .entry))) (now (s .entry))) ⌝ }
-{
-    number_of(s, char_width(s))
-}
-
 // The width of the character at the head; a byte that begins none stands alone.
 pub fn char_step(text: &[u8]) -> usize
     ensures { λ r. ⌜ r ≡ max 1 (charWidth (now (text .entry))) ⌝ }

@@ -1,4 +1,5 @@
 // The static library: the public calls as functions for C, each slice as a pointer and a length. include/varitmol.h declares them.
+// What the numbers of steps and metaspace stand for is in specs/Numbers.antt.
 use model::Answer;
 use numbers::metaspace_from;
 use numbers::steps_from;

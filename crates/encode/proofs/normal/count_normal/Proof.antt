@@ -9,7 +9,7 @@ use borrow.Author.Needs.{needs}
 use lib.ListN.{length, take}
 use Rattle.model.specs.Model.{TokenList, tokenList}
 use Rattle.normalise.specs.Normalise.{outgrows}
-use Rattle.sections.specs.Sections.{Item, plain, Section, sections}
+use Rattle.sections.specs.Sections.{plain, Section, sections}
 use Rattle.sections.proofs.StepLaws.{stepsLeft}
 use Rattle.sections.proofs.SectionLaws.{sectionsLeft, sections-start}
 use Rattle.encode.specs.inner.Tables.{ownIn}

@@ -1,7 +1,5 @@
 -- `encode::normal::count_normal_section` meets its contract: the steps, and then the parts of the text where it stands.
 use native.Mathlib.Omega.{arith}
-use mathlib.Core.Path.{_≡_, ap, _∙_}
-use mathlib.Core.Bool.{false}
 use mathlib.Core.List.{List}
 use Prim.Native.Nat.{ℕ}
 use mathlib.Core.Option.{Option}

@@ -1,7 +1,7 @@
 -- `encode::normal::encode_normal` meets its contract: what the first pass found decides.
 use Prim.Native.Nat.{ℕ, min}
 use native.Mathlib.Omega.{arith}
-use mathlib.Core.Path.{_≡_, ap, ap₂, _∙_}
+use mathlib.Core.Path.{ap, ap₂, _∙_}
 use mathlib.Core.List.{List}
 use borrow.Author.Needs.{needs}
 use lib.ListN.{length, take}
@@ -12,7 +12,7 @@ use Rattle.sections.specs.Sections.{Item, takenApart, sections}
 use Rattle.encode.specs.Parts.{Stretch}
 use Rattle.encode.specs.inner.Tables.{Tables}
 use Rattle.encode.specs.inner.Passes.{itemOutputs, Normal, sectionStretches, sectionOutputs}
-use Rattle.encode.proofs.OutcomeLaws.{normal-long, normal-fine, normal-short, normal-written, written-inside, cleared-long}
+use Rattle.encode.proofs.OutcomeLaws.{normal-long, normal-fine, normal-short, normal-written, cleared-long}
 use Rattle.encode.proofs.normal.encode_normal.Statement.{statement}
 use Rattle.encode.proofs.normal.encode_normal.Tie as tie
 

@@ -1,7 +1,7 @@
 -- `encode::raw::encode_raw` meets its contract.
 use native.Mathlib.Omega.{arith}
 use borrow.Author.Needs.{needs}
-use Rattle.encode.proofs.OutcomeLaws.{outcome-short, outcome-written, written-inside, cleared-long}
+use Rattle.encode.proofs.OutcomeLaws.{outcome-short, outcome-written, cleared-long}
 use Rattle.encode.proofs.raw.encode_raw.Statement.{statement}
 use Rattle.encode.proofs.raw.encode_raw.Tie as tie
 

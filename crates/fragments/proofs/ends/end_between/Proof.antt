@@ -8,7 +8,7 @@ use Rattle.utf8.specs.Lists.{countFrom}
 use Rattle.model.specs.Model.{TokenList}
 use Rattle.fragments.specs.inner.Most.{most}
 use Rattle.fragments.specs.inner.Reach.{tokensOf, endAt, endBetween}
-use Rattle.fragments.proofs.Bounded.{most-last, most-none}
+use Rattle.fragments.proofs.Bounded.{most-last, most-ended}
 use Rattle.fragments.proofs.EndLaws.{sound-by, none-ends, end-passed}
 use Rattle.fragments.proofs.ends.end_between.Statement.{statement}
 use Rattle.fragments.proofs.ends.end_between.Tie as tie
@@ -86,7 +86,7 @@ loop-again-2 c = let b = c .before in
 returns-2 : tie.Need-returns-2 Inv-loop μ-loop
 returns-2 c = let t = c .before in
     let l = t .loop in
-    sym (most-none (ends t) (start t .args .from) (l .s) (l .far) (search needs)) ∙ l .inv .1
+    sym (most-ended (ends t) (start t .args .from) (l .s) (l .far) (search needs)) ∙ l .inv .1
 
 pub end-between-spec : {M : Type 1} → statement M
 end-between-spec =

@@ -11,8 +11,6 @@ use Rattle.utf8.proofs.Tests.{or-also}
 use Rattle.utf8.proofs.Places.{any-found, any-next, any-ended}
 use Rattle.fragments.proofs.ends.holds_space.Statement.{statement}
 use Rattle.fragments.proofs.ends.holds_space.Tie as tie
-use Rattle.fragments.proofs.ends.holds_space.Reads as reads
-use Rattle.fragments.proofs.ends.holds_space.Lts as lts
 
 abbrev spacing : ℕ → Bool
 spacing b = eqb b 0x20 || eqb b 0xE2

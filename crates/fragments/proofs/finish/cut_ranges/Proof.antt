@@ -10,7 +10,7 @@ use Rattle.model.specs.Model.{strings}
 use Rattle.units.specs.Derived.{namedCrossings}
 use Rattle.fragments.specs.inner.Reach.{tokensOf}
 use Rattle.fragments.specs.inner.Search.{safeIn, numbersIn}
-use Rattle.fragments.proofs.FinishLaws.{few-cuts, two-each, ranges-short, written-long, cleared-long, ranges-done}
+use Rattle.fragments.proofs.FinishLaws.{few-cuts, two-each, ranges-short, cleared-long, ranges-done}
 use Rattle.fragments.proofs.finish.cut_ranges.Statement.{statement}
 use Rattle.fragments.proofs.finish.cut_ranges.Tie as tie
 
