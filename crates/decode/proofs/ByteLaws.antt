@@ -1,37 +1,27 @@
 -- What one byte leaves, by whether it goes on with what is held, makes it whole or breaks it off; and a loop that feeds. Assumes nothing.
-use Prim.Native.Nat.{ℕ, _+_, _*_, _≤_, _<_}
+use Prim.Native.Nat.{ℕ, _+_, _*_, _≤_}
 use native.Mathlib.Nat.{add-zero}
 use native.Mathlib.Omega.{arith}
 use mathlib.Core.Path.{_≡_, refl, sym, ap, ap₂, _∙_}
-use mathlib.Core.Bool.{Bool, true, false, not, cond, _&&_, _||_}
+use mathlib.Core.Bool.{Bool, true, false, not, cond, _&&_, _||_, and-false, or-true, or-false}
 use mathlib.Core.List.{List, [], _∷_, _++_, append-nil, append-assoc}
-use lib.ListN.{length, replicate, length-append}
+use lib.ListN.{length, drop, replicate, length-append}
 use lib.Seq.{sets}
-use borrow.Author.Tests.{eqb-true}
+use borrow.Author.Tests.{eqb-true, ltb-true}
 use lib.Dec.{eqb, ltb}
-use Rattle.utf8.specs.Lists.{isEmpty, join, Range}
+use Rattle.utf8.specs.Lists.{all, isEmpty, join, startsWith, Range}
 use Rattle.utf8.specs.Chars.{charForms, charWidth, chars, isChar}
 use Rattle.utf8.proofs.Tests.{clash, and-left, and-right}
+use Rattle.utf8.proofs.Joins.{starts-rest}
 use Rattle.model.specs.Mark.{mark, space}
 use Rattle.decode.specs.Decode.{replacement}
 use Rattle.decode.specs.declared.Decoder.{Decoder}
 use Rattle.decode.specs.inner.Feeding.{largest, formOf, isIdle, isOpen, isBroken, grown, singles, settledBy, heldNext, settled, heldAfter, shownFirst, shownText, heldBy, holding, Sound, Fed, Put, put, putOut, stateAfter, fed}
+use Rattle.decode.specs.inner.Words.{isPlain, headSpaced}
 use Rattle.decode.proofs.FormLaws.{ascii-form, open-first, broken-none}
 use Rattle.decode.proofs.FedLaws.{held-open-after, chars-fed, chars-open}
 use Rattle.decode.proofs.TextLaws.{shownText-append, shown-strays, shown-ascii, shown-mark}
-use Rattle.decode.proofs.StateLaws.{held-none, held-holding, held-count, held-state, sound-empty, sound-after, sets-append, strays-long, fed-append, putOut-append, putOut-front}
-
-or-with-false : (begun : Bool) → (begun || false) ≡ begun
-or-with-false true = refl
-or-with-false false = refl
-
-or-with-true : (begun : Bool) → (begun || true) ≡ true
-or-with-true true = refl
-or-with-true false = refl
-
-and-with-false : (gone : Bool) → (gone && false) ≡ false
-and-with-false true = refl
-and-with-false false = refl
+use Rattle.decode.proofs.StateLaws.{held-none, held-holding, held-count, held-state, sound-empty, sound-after, sets-append, strays-long, fed-append, putOut-append, state-append}
 
 -- ---- one byte
 
@@ -44,12 +34,12 @@ module _ (s : Decoder) (b : ℕ) (at : ℕ) (out : List ℕ) where
     pub taken-open : isOpen (heldBy s ++ (b ∷ [])) ≡ true
         → _≡_ {A = Fed} (record { progress = record { decoder = holding (heldBy s ++ (b ∷ [])) (s .begun); at = at }; out = out }) (fed s (b ∷ []) at out)
     unfolding fed stateAfter putOut settledBy heldNext
-    taken-open more = rw (grown-on, more, whole) (rw (or-with-false (s .begun), add-zero at))
+    taken-open more = rw (grown-on, more, whole) (rw (or-false (s .begun), add-zero at))
 
     pub taken-whole : isOpen (heldBy s ++ (b ∷ [])) ≡ false → (p : Put) (d : Decoder) → p ≡ put (shownFirst (not (s .begun)) (heldBy s ++ (b ∷ []))) at out → d ≡ holding [] true
         → _≡_ {A = Fed} (record { progress = record { decoder = d; at = p .at }; out = p .out }) (fed s (b ∷ []) at out)
     unfolding fed stateAfter putOut settledBy heldNext put
-    taken-whole last p d e anew = rw (anew, e, grown-on, last, whole) (rw (or-with-true (s .begun), append-nil (shownFirst (not (s .begun)) (heldBy s ++ (b ∷ [])))))
+    taken-whole last p d e anew = rw (anew, e, grown-on, last, whole) (rw (or-true (s .begun), append-nil (shownFirst (not (s .begun)) (heldBy s ++ (b ∷ [])))))
 
   module _ (sound : Sound s) (broken : isBroken (heldBy s) b ≡ true) where
     some-held : isEmpty (heldBy s) ≡ false
@@ -73,7 +63,7 @@ module _ (s : Decoder) (b : ℕ) (at : ℕ) (out : List ℕ) where
     settled-broken = rw broken (append-assoc (singles (heldBy s)) (cond (isOpen (b ∷ [])) [] ((b ∷ []) ∷ [])) [])
 
     begun-broken : (s .begun || not (isEmpty (settled (heldBy s) (b ∷ [])))) ≡ true
-    begun-broken = rw (settled-broken, empty-front (heldBy s) (settled [] (b ∷ [])) some-held, or-with-true (s .begun))
+    begun-broken = rw (settled-broken, empty-front (heldBy s) (settled [] (b ∷ [])) some-held, or-true (s .begun))
 
     next-broken : heldNext (heldBy s) b ≡ heldNext [] b
     unfolding heldNext grown isBroken
@@ -88,7 +78,7 @@ module _ (s : Decoder) (b : ℕ) (at : ℕ) (out : List ℕ) where
     putOut-broken =
         ap (shownText (not (s .begun))) settled-broken
         ∙ shownText-append (not (s .begun)) (singles (heldBy s)) (settled [] (b ∷ []))
-        ∙ rw (shown-strays (not (s .begun)) (heldBy s) (sound .unfinished), empty-singles (heldBy s), some-held, and-with-false (not (s .begun)), ← putOut-anew)
+        ∙ rw (shown-strays (not (s .begun)) (heldBy s) (sound .unfinished), empty-singles (heldBy s), some-held, and-false (not (s .begun)), ← putOut-anew)
         (ap (λ (n : ℕ). join (replicate n replacement) ++ putOut (holding [] true) (b ∷ [])) (sym (held-count s sound)))
 
     state-broken : stateAfter s (b ∷ []) ≡ stateAfter (holding [] true) (b ∷ [])
@@ -157,11 +147,57 @@ module _ (s : Decoder) (sound : Sound s) (ready : isIdle s ≡ true) (at : ℕ) 
       rw (e, putOut-mark s (i .held) (i .begun), state-mark s (i .held) (i .begun))
       (ap (λ (d : Decoder). record { progress = record { decoder = d; at = at + length space }; out = sets out at space }) (i .same))
 
+-- ---- a piece of characters of one byte, behind one mark at the most
+
+pub state-nothing : (s : Decoder) → Sound s → stateAfter s [] ≡ s
+unfolding stateAfter
+state-nothing s sound = ap (holding (heldBy s)) (or-false (s .begun)) ∙ sym (sound .form)
+
+module _ (s : Decoder) (sound : Sound s) (ready : isIdle s ≡ true) where
+  plain-out : (b : ℕ) → b ≤ 0x7F → putOut s (b ∷ []) ≡ b ∷ []
+  unfolding putOut settledBy grown
+  plain-out b low =
+      let i = idle s sound ready in
+      let shut : isOpen (b ∷ []) ≡ false = open-first b ∙ ap (λ (form : List Range). ltb 1 (length form)) (ascii-form b low) in
+      rw (i .held, i .begun, broken-none b, shut, shown-ascii false b low)
+
+  plain-state : (b : ℕ) → b ≤ 0x7F → stateAfter s (b ∷ []) ≡ s
+  unfolding fed
+  plain-state b low = sym (ap (λ (f : Fed). f .progress .decoder) (fed-plain s sound ready 0 [] (put (b ∷ []) 0 []) b low refl))
+
+  plain-run : (xs : List ℕ) → all isPlain xs ≡ true → (putOut s xs ≡ xs) × (stateAfter s xs ≡ s)
+  unfolding putOut
+  plain-run [] e = (refl, state-nothing s sound)
+  plain-run (b ∷ xs) e =
+      let less = ltb-true b 0x80 (and-left (isPlain b) (all isPlain xs) e) in
+      let low : b ≤ 0x7F = omega arith in
+      let rest = plain-run xs (and-right (isPlain b) (all isPlain xs) e) in
+      let same = plain-state b low in (
+        putOut-append s sound (b ∷ []) xs ∙ ap₂ _++_ (plain-out b low) (ap (λ (t : Decoder). putOut t xs) same ∙ rest .0),
+        state-append s sound (b ∷ []) xs ∙ ap (λ (t : Decoder). stateAfter t xs) same ∙ rest .1,
+      )
+
+  pub plain-piece : (xs : List ℕ) → all isPlain (headSpaced xs) ≡ true → (putOut s xs ≡ headSpaced xs) × (stateAfter s xs ≡ s)
+  unfolding headSpaced mark space
+  plain-piece xs e = go (startsWith mark xs) refl e
+    where
+      go : (m : Bool) → startsWith mark xs ≡ m → all isPlain (cond m (0x20 ∷ drop 3 xs) xs) ≡ true → (putOut s xs ≡ cond m (0x20 ∷ drop 3 xs) xs) × (stateAfter s xs ≡ s)
+      go true q f =
+          let i = idle s sound ready in
+          let rest = plain-run (drop 3 xs) f in
+          let split = starts-rest mark xs q in
+          let same : stateAfter s mark ≡ s = state-mark s sound ready 0 [] (put [] 0 []) s (i .held) (i .begun) ∙ sym (i .same) in (
+            ap (putOut s) split ∙ putOut-append s sound mark (drop 3 xs)
+                ∙ ap₂ _++_ (putOut-mark s sound ready 0 [] (put [] 0 []) s (i .held) (i .begun)) (ap (λ (t : Decoder). putOut t (drop 3 xs)) same ∙ rest .0),
+            ap (stateAfter s) split ∙ state-append s sound mark (drop 3 xs) ∙ ap (λ (t : Decoder). stateAfter t (drop 3 xs)) same ∙ rest .1,
+          )
+      go false q f = plain-run xs f
+
 -- ---- a loop that feeds
 
 pub fed-nothing : (s : Decoder) → Sound s → (at : ℕ) (out : List ℕ) → _≡_ {A = Fed} (record { progress = record { decoder = s; at = at }; out = out }) (fed s [] at out)
 unfolding fed stateAfter putOut
-fed-nothing s sound at out = rw (or-with-false (s .begun), add-zero at, ← sound .form)
+fed-nothing s sound at out = rw (or-false (s .begun), add-zero at, ← sound .form)
 
 -- What is left to feed gives what feeding all gives.
 pub record Feeding (all : Fed) (s : Decoder) (rest : List ℕ) (at : ℕ) (out : List ℕ) : Type 0 where
@@ -173,12 +209,6 @@ pub feeding-start : (s : Decoder) (bytes : List ℕ) (at : ℕ) (out : List ℕ)
 feeding-start s bytes at out sound room = record { sound = sound; same = refl; room = room }
 
 module _ {all : Fed} {s : Decoder} {rest : List ℕ} {at : ℕ} {out : List ℕ} (xs ys : List ℕ) (begins : rest ≡ xs ++ ys) (l : Feeding all s rest at out) where
-  -- There is room for the next part.
-  pub feeding-room : at + length (putOut s xs) + 13 ≤ largest
-  feeding-room =
-      let whole : at + length (putOut s (xs ++ ys)) + 13 ≤ largest = rw begins at (l .room) in
-      omega (arith, whole, putOut-front s (l .sound) xs ys)
-
   pub feeding-next : (f : Fed) → f ≡ fed s xs at out → Feeding all (f .progress .decoder) ys (f .progress .at) (f .out)
   unfolding fed
   feeding-next f e = rw e (record {
@@ -224,30 +254,16 @@ module _ (begun : Bool) (bytes : List ℕ) where
   unfolding putOut holding heldBy
   putOut-all = refl
 
-  ended-text : shownText (not begun) (chars bytes) ≡ putOut anew bytes ++ left
+  pub ended-text : shownText (not begun) (chars bytes) ≡ putOut anew bytes ++ left
   unfolding isOpen
   ended-text =
       ap (shownText (not begun)) all-settled
       ∙ shownText-append (not begun) (settled [] bytes) (singles (heldAfter [] bytes))
       ∙ rw (shown-strays (not begun && isEmpty (settled [] bytes)) (heldAfter [] bytes) (held-open-after [] bytes refl), left-strays, putOut-all)
 
-  ended-long : length (shownText (not begun) (chars bytes)) ≡ length (putOut anew bytes) + stateAfter anew bytes .count * 3
+  pub ended-long : length (shownText (not begun) (chars bytes)) ≡ length (putOut anew bytes) + stateAfter anew bytes .count * 3
   ended-long = omega (arith, ap length ended-text, length-append (putOut anew bytes) left, strays-long (stateAfter anew bytes .count))
 
   module _ (room : length (shownText (not begun) (chars bytes)) + 13 ≤ largest) (d : Decoder) (is : d ≡ anew) where
     pub start-room : length (putOut d bytes) + 13 ≤ largest
     start-room = rw is (omega (arith, room, ended-long))
-
-    module _ (out : List ℕ) (f : Fed) (e : f ≡ fed d bytes 0 out) where
-      same-fed : f ≡ fed anew bytes 0 out
-      same-fed = e ∙ ap (λ (s : Decoder). fed s bytes 0 out) is
-
-      pub end-room : f .progress .at + f .progress .decoder .count * 3 ≤ largest
-      unfolding fed
-      end-room = rw same-fed (omega (arith, room, ended-long))
-
-      pub ended : (p : Put) → p ≡ put (join (replicate (f .progress .decoder .count) replacement)) (f .progress .at) (f .out) → p ≡ put (shownText (not begun) (chars bytes)) 0 out
-      unfolding fed put
-      ended p g =
-          let far : 0 + length (shownText (not begun) (chars bytes)) ≡ 0 + length (putOut anew bytes) + length left = omega (arith, ap length ended-text, length-append (putOut anew bytes) left) in
-          g ∙ rw (same-fed, far, ended-text, sets-append (putOut anew bytes) left out 0)

@@ -1,14 +1,13 @@
 -- The outcome of decode, by the first test that applies. Assumes nothing.
 use Prim.Native.Nat.{ℕ, _+_, _*_, _-_, _≤_, _<_}
-use native.Mathlib.Nat.{suc-ne-zero, zero-add, mul-le-mul-right}
+use native.Mathlib.Nat.{suc-ne-zero}
 use native.Mathlib.Omega.{arith}
 use mathlib.Core.Path.{_≡_, refl, sym, ap, _∙_}
-use mathlib.Core.Bool.{Bool, true, false, not, cond}
+use mathlib.Core.Bool.{Bool, true, false, not}
 use mathlib.Core.List.{List, [], _∷_, _++_}
-use borrow.Author.Tests.{ne-eqb, lt-ltb, le-ltb}
-use lib.Dec.{ltb}
-use lib.ListN.{length, take, drop, getD}
-use lib.Seq.{sets, sets-eq, length-sets, take-append-seam, length-front, length-take-le}
+use borrow.Author.Tests.{ne-eqb, lt-ltb, le-ltb, leb-true, leb-false}
+use lib.Dec.{ltb, leb}
+use lib.ListN.{length, take, getD}
 use Rattle.utf8.specs.Lists.{count}
 use Rattle.utf8.specs.Chars.{chars}
 use Rattle.model.specs.Model.{Model, strings, piecesOf, stepsOf}
@@ -19,7 +18,7 @@ use Rattle.model.proofs.Accepted.{accepted}
 use Rattle.model.proofs.AnswerLaws.{lowest-later, lowest-first, tests-positive, tests-of-check, text-too-long, check-refuses, number-checked}
 use Rattle.model.proofs.StringLaws.{length-strings, string-short}
 use Rattle.decode.specs.Decode.{hasPiece, joinedBytes, skips, prependsSpace, decodedBytes, decodeNumber, decodeOutcome}
-use Rattle.decode.specs.inner.Feeding.{largest, shownText, Put, put, idsOutcome}
+use Rattle.decode.specs.inner.Feeding.{largest, shownText, Front, idsOutcome}
 use Rattle.decode.proofs.TextLaws.{shown-length, decoded-text, joined-length}
 
 -- ---- ids whose number is small enough
@@ -28,31 +27,19 @@ module _ (pieces : List (List ℕ)) (gone : Bool) (ids out : List ℕ) where
   abbrev text : List ℕ
   text = shownText gone (chars (joinedBytes pieces ids))
 
-  -- What a pass without room counts.
-  pub counted : (n : ℕ) (none : List ℕ) (before : List ℕ) → _≡_ {A = Put} (record { at = n; out = none }) (put text 0 before) → n ≡ length text
-  unfolding put
-  counted n none before e = ap (λ (p : Put). p .at) e ∙ zero-add (length text)
-
-  pub ids-short : (answer : Answer) (n : ℕ) → answer ≡ refused 12 0 → n ≡ length text → length out < n → _≡_ {A = Outcome} (record { answer = answer; out = out }) (idsOutcome pieces gone ids out)
+  pub ids-short : (answer : Answer) → answer ≡ refused 12 0 → leb (length text) (length out) ≡ false → _≡_ {A = Outcome} (record { answer = answer; out = out }) (idsOutcome pieces gone ids out)
   unfolding idsOutcome
-  ids-short answer n e long h =
-      let short : length out < length text = omega (arith, long) in
-      rw (lt-ltb (length out) (length text) short, e)
+  ids-short answer e h = rw (lt-ltb (length out) (length text) (leb-false (length text) (length out) h), e)
 
-  pub ids-fit : (answer : Answer) (n m written : ℕ) (full last : List ℕ) → n ≡ length text → n ≤ length out
-      → _≡_ {A = Put} (record { at = written; out = full }) (put text 0 out)
+  pub ids-fit : (answer : Answer) (m written : ℕ) (full last : List ℕ) → leb (length text) (length out) ≡ true
+      → Front text written full → length full ≡ length out
       → last ≡ take written full ++ zeros (length full - written)
       → m ≡ skips pieces ids → answer ≡ done written 0 m
       → _≡_ {A = Outcome} (record { answer = answer; out = last }) (idsOutcome pieces gone ids out)
-  unfolding idsOutcome put filled
-  ids-fit answer n m written full last long room e l counts answered =
-      let fits : length text ≤ length out = omega (arith, long) in
-      let w : written ≡ length text = ap (λ (p : Put). p .at) e ∙ zero-add (length text) in
-      let f : full ≡ text ++ drop (length text) out =
-      ap (λ (p : Put). p .out) e ∙ sets-eq text out 0 (omega (arith, fits)) ∙ ap (λ (k : ℕ). text ++ drop k out) (zero-add (length text)) in
-      let same : length full ≡ length out = ap length f ∙ length-front out text (length text) (sym (length-take-le (length text) out fits)) in
-      let front : take (length text) full ≡ text = ap (take (length text)) f ∙ take-append-seam text (drop (length text) out) in
-      rw (le-ltb (length out) (length text) fits, l, answered, counts, w, front, same)
+  unfolding idsOutcome filled
+  ids-fit answer m written full last room f same l counts answered =
+      let fits = leb-true (length text) (length out) room in
+      rw (le-ltb (length out) (length text) fits, l, answered, counts, f .cells (omega arith), f .size, same)
 
 -- How many ids have no piece, by the number of pieces.
 pub skips-counted : (bytes offsets ids : List ℕ) (n : ℕ) → n ≡ length offsets - 1 → count (λ (id : ℕ). not (ltb id n)) ids ≡ skips (strings bytes offsets) ids

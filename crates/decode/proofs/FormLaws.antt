@@ -12,7 +12,7 @@ use Rattle.utf8.specs.Lists.{all, Range, within}
 use Rattle.utf8.specs.Chars.{tail, charForms, hasForm, widthAmong, charWidth, isChar}
 use Rattle.utf8.proofs.Tests.{either, clash, and-left, and-right, and-both, or-also, within-low, within-high, within-in}
 use Rattle.utf8.proofs.Places.{all-holds}
-use Rattle.utf8.proofs.Forms.{beginsApart, apart, firstOf, inside, widthAmong-apart}
+use Rattle.utf8.proofs.Forms.{beginsApart, apart, firstOf, inside, within-apart, widthAmong-apart, none-in-empty}
 use Rattle.utf8.proofs.Characters.{charWidth-nil}
 use Rattle.decode.specs.inner.Feeding.{formAmong, formOf, beginsForm, isOpen, isBroken}
 
@@ -21,13 +21,6 @@ Form = List Range
 
 -- ---- the form of a byte
 
-within-apart : (range first : Range) (form : Form) (b : ℕ) → beginsApart range (first ∷ form) ≡ true → within range b ≡ true → within first b ≡ false
-within-apart range first form b e h = go (within first b) (widthAmong-apart range ((first ∷ []) ∷ []) (and-both e refl) b [] h)
-  where
-    go : (d : Bool) → _≡_ {A = ℕ} (cond (d && true) 1 0) 0 → d ≡ false
-    go true q = absurd (omega arith)
-    go false q = refl
-
 among-apart : (range : Range) (forms : List Form) → all (beginsApart range) forms ≡ true → (b : ℕ) → within range b ≡ true → formAmong forms b ≡ []
 among-apart range [] e b h = refl
 among-apart range ([] ∷ forms) e b h = clash refl e
@@ -35,9 +28,6 @@ among-apart range ((first ∷ form) ∷ forms) e b h =
     let here = and-left (beginsApart range (first ∷ form)) (all (beginsApart range) forms) e in
     let rest = and-right (beginsApart range (first ∷ form)) (all (beginsApart range) forms) e in
     ap (λ (d : Bool). cond d (first ∷ form) (formAmong forms b)) (within-apart range first form b here h) ∙ among-apart range forms rest b h
-
-none-in-empty {ℓ} : {A : Type ℓ} (b : ℕ) → within (1, 0) b ≡ true → A
-none-in-empty b h = absurd (omega (arith, within-low (1, 0) b h, within-high (1, 0) b h))
 
 -- Of forms that begin apart only one can begin with the byte.
 among-lead : (forms : List Form) → apart forms ≡ true → (k b : ℕ) → within (firstOf (getD forms k [])) b ≡ true → formAmong forms b ≡ getD forms k []

@@ -4,4 +4,8 @@ pub mod FedLaws
 pub mod TextLaws
 pub mod StateLaws
 pub mod ByteLaws
+pub mod RoomLaws
+pub mod WordLaws
+pub mod QuickLaws
+pub mod PassLaws
 pub mod DecodeLaws

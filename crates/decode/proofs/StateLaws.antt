@@ -3,19 +3,18 @@ use Prim.Native.Nat.{ℕ, zero, suc, _+_, _*_, _-_, _≤_, _<_}
 use native.Mathlib.Nat.{add-zero}
 use native.Mathlib.Omega.{arith}
 use mathlib.Core.Path.{_≡_, refl, sym, ap, ap₂, _∙_}
-use mathlib.Core.Bool.{Bool, true, false, not, cond, _&&_, _||_}
-use mathlib.Core.List.{List, [], _∷_, _++_, append-nil, append-assoc}
+use mathlib.Core.Bool.{Bool, true, false, not, _&&_, _||_}
+use mathlib.Core.List.{List, [], _∷_, _++_, append-nil}
 use lib.ListN.{length, take, set, replicate, length-append, replicate-append-replicate}
-use lib.Seq.{sets}
+use lib.Seq.{sets, set-out}
 use Rattle.utf8.specs.Lists.{isEmpty, join}
 use Rattle.utf8.proofs.Lists.{join-append}
 use Rattle.decode.specs.Decode.{replacement}
 use Rattle.decode.specs.declared.Decoder.{Decoder}
-use Rattle.decode.specs.declared.Progress.{Progress}
-use Rattle.decode.specs.inner.Feeding.{isOpen, isBroken, grown, singles, settledBy, heldNext, settled, heldAfter, shown, shownFirst, shownText, heldBy, holding, Sound, Fed, Put, put, putOut, stateAfter, fed}
-use Rattle.decode.proofs.FormLaws.{open-short, broken-none}
+use Rattle.decode.specs.inner.Feeding.{isOpen, settled, heldAfter, heldBy, holding, Sound, Put, put, putOut, stateAfter, fed}
+use Rattle.decode.proofs.FormLaws.{open-short}
 use Rattle.decode.proofs.FedLaws.{held-open-after, settled-append, held-append}
-use Rattle.decode.proofs.TextLaws.{shownText-append, shown-strays}
+use Rattle.decode.proofs.TextLaws.{shownText-append}
 
 -- ---- what a state holds
 
@@ -106,6 +105,11 @@ pub sets-append : (xs ys out : List ℕ) (at : ℕ) → sets out at (xs ++ ys) �
 sets-append [] ys out at = rw (add-zero at)
 sets-append (x ∷ xs) ys out at = sets-append xs ys (set out at x) (suc at) ∙ ap (λ (n : ℕ). sets (sets (set out at x) (suc at) xs) n ys) (omega arith)
 
+-- Stores past the end.
+pub sets-past : (xs out : List ℕ) (at : ℕ) → length out ≤ at → sets out at xs ≡ out
+sets-past [] out at h = refl
+sets-past (x ∷ xs) out at h = ap (λ (l : List ℕ). sets l (suc at) xs) (set-out out at x h) ∙ sets-past xs out (suc at) (omega arith)
+
 put-append : (xs ys : List ℕ) (at : ℕ) (out : List ℕ) → put (xs ++ ys) at out ≡ put ys (put xs at out .at) (put xs at out .out)
 unfolding put
 put-append xs ys at out =
@@ -169,7 +173,7 @@ module _ (s : Decoder) (sound : Sound s) (xs ys : List ℕ) where
   unfolding stateAfter
   state-from t h b = rw (h, b, settled-append (heldBy s) xs ys, held-append (heldBy s) xs ys, or-append (s .begun) (settled (heldBy s) xs) (settled (heldAfter (heldBy s) xs) ys))
 
-  state-append : stateAfter s (xs ++ ys) ≡ stateAfter (stateAfter s xs) ys
+  pub state-append : stateAfter s (xs ++ ys) ≡ stateAfter (stateAfter s xs) ys
   state-append = state-from (stateAfter s xs) held-state begun-state
 
   -- Bytes, and then others.

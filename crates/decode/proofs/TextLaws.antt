@@ -1,6 +1,7 @@
 -- Laws of the text that is shown for characters and stray bytes, and of the bytes that ids stand for. Assumes nothing.
-use Prim.Native.Nat.{ℕ, zero, suc, _*_, _≤_, _<_, max}
+use Prim.Native.Nat.{ℕ, zero, suc, _+_, _*_, _≤_, _<_, max}
 use native.Mathlib.Nat.{mul-suc}
+use native.Mathlib.Numerals.{add-one}
 use native.Mathlib.Omega.{arith}
 use mathlib.Core.Path.{_≡_, refl, sym, ap, ap₂, _∙_}
 use mathlib.Core.Bool.{Bool, true, false, not, cond, _&&_, _||_, and-true, and-false}
@@ -8,7 +9,8 @@ use mathlib.Core.Logic.{⊎-elim}
 use mathlib.Core.List.{List, [], _∷_, _++_, map, append-assoc}
 use borrow.Author.Tests.{ltb-true, ltb-false, eqb-true, eq-eqb, ne-eqb, eqb-false}
 use lib.Dec.{ltb, eqb}
-use lib.ListN.{length, take, drop, getD, replicate, length-append, length-take, length-drop, List·getD-eq-default}
+use lib.ListN.{length, take, drop, getD, replicate, length-append, length-take, length-drop, drop-of-length-le, List·getD-eq-default}
+use lib.Seq.{drop-cons}
 use Rattle.utf8.specs.Lists.{all, isEmpty, filter, join, joinMap, same, startsWith, within}
 use Rattle.utf8.specs.Chars.{tail, charForms, charWidth, chars, isChar}
 use Rattle.utf8.proofs.Tests.{either, and-left, and-right, and-both}
@@ -225,9 +227,9 @@ shown-text gone bytes =
 
 -- ---- how much is shown
 
-shown-size : (c : List ℕ) → cut c ≡ true → length (shown c) ≤ 3 * length c
+pub shown-size : (c : List ℕ) → 0 < length c → length (shown c) ≤ 3 * length c
 unfolding shown space replacement
-shown-size c e = go (isChar c) (same c mark) (cut-some c e)
+shown-size c pos = go (isChar c) (same c mark) pos
   where
     go : (d s : Bool) → 0 < length c → length (cond d (cond s space c) replacement) ≤ 3 * length c
     go true true pos = omega arith
@@ -237,11 +239,11 @@ shown-size c e = go (isChar c) (same c mark) (cut-some c e)
 all-size : (cs : List (List ℕ)) → all cut cs ≡ true → length (joinMap shown cs) ≤ 3 * length (join cs)
 all-size [] e = omega arith
 all-size (c ∷ cs) e =
-    let here = shown-size c (and-left (cut c) (all cut cs) e) in
+    let here = shown-size c (cut-some c (and-left (cut c) (all cut cs) e)) in
     let rest = all-size cs (and-right (cut c) (all cut cs) e) in
     omega (arith, length-append (shown c) (joinMap shown cs), length-append c (join cs))
 
-first-size : (gone : Bool) (cs : List (List ℕ)) → length (shownText gone cs) ≤ length (joinMap shown cs)
+pub first-size : (gone : Bool) (cs : List (List ℕ)) → length (shownText gone cs) ≤ length (joinMap shown cs)
 unfolding shownFirst
 first-size gone [] = omega arith
 first-size gone (c ∷ cs) = go (gone && same (shown c) space)
@@ -270,6 +272,17 @@ joined-all pieces (id ∷ ids) = go (hasPiece pieces id) refl (joined-all pieces
         → joinMap (piece pieces) (cond d (id ∷ filter (hasPiece pieces) ids) (filter (hasPiece pieces) ids)) ≡ piece pieces id ++ joinMap (piece pieces) ids
     go true h rest = ap (λ (l : List ℕ). piece pieces id ++ l) rest
     go false h rest = ap₂ _++_ (sym (no-piece pieces id h)) rest
+
+module _ (pieces : List (List ℕ)) (ids : List ℕ) (i : ℕ) where
+  -- From a place on: the piece of the id there, then those of the others.
+  pub joined-next : i < length ids → joinedBytes pieces (drop i ids) ≡ piece pieces (getD ids i 0) ++ joinedBytes pieces (drop (i + 1) ids)
+  joined-next h =
+      joined-all pieces (drop i ids)
+      ∙ rw (add-one, drop-cons ids i 0 h) (ap (λ (l : List ℕ). piece pieces (getD ids i 0) ++ l) (sym (joined-all pieces (drop (suc i) ids))))
+
+  pub joined-ended : length ids ≤ i → joinedBytes pieces (drop i ids) ≡ []
+  unfolding joinedBytes
+  joined-ended h = rw (drop-of-length-le ids {i = i} h)
 
 pub joined-length : (pieces : List (List ℕ)) (n : ℕ) → ((i : ℕ) → length (getD pieces i []) ≤ n) → (ids : List ℕ) → length (joinedBytes pieces ids) ≤ n * length ids
 unfolding piece

@@ -1,28 +1,31 @@
-// Ids back to text: the pieces joined, stray bytes replaced, marks as spaces.
+// Ids back to text: the pieces joined, stray bytes replaced, marks as spaces. Defined in specs/Decode.antt; what the state stands for that
+// bytes are fed to is in specs/inner/Feeding.antt.
 
 mod feed;
 mod forms;
 mod pass;
 mod put;
+mod room;
 mod skips;
 mod space;
+mod words;
 
 use model::Answer;
 use model::Metaspace;
 use model::Step;
 use model::clear::clear_bytes;
 use model::tables::string_count;
-use pass::decoded_len;
 use pass::put_decoded;
+use room::text_fits;
 use skips::count_skips;
 use space::prepends_space;
 ghost use mathlib.Core.Path.{_≡_};
-ghost use mathlib.Core.Bool.{not};
+ghost use mathlib.Core.Bool.{false, not};
 ghost use Prim.Native.Nat.{_+_, _≤_};
 ghost use lib.ListN.{length};
 ghost use Rattle.utf8.specs.Chars.{chars};
 ghost use Rattle.model.specs.Answers.{Outcome};
-ghost use Rattle.model.specs.Check.{checkNumber};
+ghost use Rattle.model.specs.Check.{badPiece, checkNumber};
 ghost use Rattle.model.specs.Model.{modelOf, tokenList, strings};
 ghost use Rattle.decode.specs.Decode.{joinedBytes, decodeOutcome};
 ghost use Rattle.decode.specs.inner.Feeding.{largest, shownText, idsOutcome};
@@ -50,10 +53,11 @@ fn decode_ids(
     ids: &[u32],
     out: &mut [u8],
 ) -> Answer
+    requires { ⌜ badPiece (strings (now «piece_bytes») (now «piece_offsets»)) ≡ false ⌝ }
     requires { ⌜ length (shownText (not begun) (chars (joinedBytes (strings (now «piece_bytes») (now «piece_offsets»)) (now ids)))) + 13 ≤ largest ⌝ }
     ensures { λ r. ⌜ _≡_ {A = Outcome} (record { answer = r; out = now (out .exit) }) (idsOutcome (strings (now («piece_bytes» .entry)) (now («piece_offsets» .entry))) (not begun) (now (ids .entry)) (now (out .entry))) ⌝ }
 {
-    if out.len() < decoded_len(piece_bytes, piece_offsets, ids, begun) {
+    if !text_fits(piece_bytes, piece_offsets, ids, begun, out.len()) {
         return Answer::refused(model::RESULT_TOO_SHORT, 0);
     }
     let written = put_decoded(piece_bytes, piece_offsets, ids, begun, out);

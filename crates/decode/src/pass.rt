@@ -7,6 +7,10 @@ use crate::feed::is_idle;
 use crate::feed::is_plain;
 use crate::put::put_byte;
 use crate::put::put_strays;
+use crate::words::all_or_none;
+use crate::words::is_quick;
+use crate::words::put_quick;
+use model::tables::number_at;
 use model::tables::string_at;
 use model::tables::wide;
 ghost use mathlib.Core.Path.{_≡_};
@@ -20,7 +24,8 @@ ghost use Rattle.utf8.specs.Chars.{chars};
 ghost use Rattle.model.specs.Mark.{mark};
 ghost use Rattle.model.specs.Model.{strings};
 ghost use Rattle.decode.specs.Decode.{joinedBytes};
-ghost use Rattle.decode.specs.inner.Feeding.{isIdle, largest, putOut, shownText, Put, put, Sound, Fed, fed};
+ghost use Rattle.decode.specs.inner.Feeding.{isIdle, largest, putOut, stateAfter, shownText, Front, Sound, Fed, fed};
+ghost use Rattle.decode.specs.inner.Words.{allOrNone, quickAt};
 
 // Whether a mark stands at a place.
 fn is_mark_at(bytes: &[u8], i: usize) -> bool
@@ -103,6 +108,22 @@ fn feed_piece(s: Decoder, bytes: &[u8], out: &mut [u8], at: usize) -> Progress
     progress
 }
 
+// Whether a piece can be put out by its eight bytes: nothing is held, the first character is settled, and there is room for all
+// of them or for none.
+fn is_ready(s: Decoder, bytes: &[u8], start: usize, len: usize, at: usize, room: usize) -> bool
+    requires { ⌜ start < 4294967296 ⌝ }
+    requires { ⌜ at + 13 ≤ largest ⌝ }
+    ensures { λ r. ⌜ r ≡ (isIdle s && (allOrNone at room && quickAt (now (bytes .entry)) start len)) ⌝ }
+{
+    if !is_idle(s) {
+        return false;
+    }
+    if !all_or_none(at, room) {
+        return false;
+    }
+    is_quick(bytes, start, len)
+}
+
 // The pieces of all ids. One without a piece is passed over, as an empty one would be.
 fn feed_ids(
     s: Decoder,
@@ -113,19 +134,32 @@ fn feed_ids(
 ) -> Progress
     requires { ⌜ Sound s ⌝ }
     requires { ⌜ length (putOut s (joinedBytes (strings (now «piece_bytes») (now «piece_offsets»)) (now ids))) + 13 ≤ largest ⌝ }
-    ensures { λ r. ⌜ _≡_ {A = Fed} (record { progress = r; out = now (out .exit) }) (fed s (joinedBytes (strings (now («piece_bytes» .entry)) (now («piece_offsets» .entry))) (now (ids .entry))) 0 (now (out .entry))) ⌝ }
+    ensures { λ r. ⌜ (r .decoder ≡ stateAfter s (joinedBytes (strings (now («piece_bytes» .entry)) (now («piece_offsets» .entry))) (now (ids .entry)))) × (Front (putOut s (joinedBytes (strings (now («piece_bytes» .entry)) (now («piece_offsets» .entry))) (now (ids .entry)))) (r .at) (now (out .exit))) ⌝ }
 {
     let mut i = 0;
-    let mut progress = Progress { decoder: s, at: 0 };
+    let mut decoder = s;
+    let mut at = 0;
     while i < ids.len() {
-        let piece = string_at(piece_bytes, piece_offsets, wide(ids[i]));
-        progress = feed_piece(progress.decoder, piece, out, progress.at);
-        i += 1;
+        let id = wide(ids[i]);
+        let piece = string_at(piece_bytes, piece_offsets, id);
+        let start = wide(number_at(piece_offsets, id));
+        if is_ready(decoder, piece_bytes, start, piece.len(), at, out.len()) {
+            at = put_quick(piece_bytes, start, piece.len(), out, at);
+            i += 1;
+        } else {
+            let progress = feed_piece(decoder, piece, out, at);
+            decoder = progress.decoder;
+            at = progress.at;
+            i += 1;
+        }
     }
-    progress
+    Progress {
+        decoder: decoder,
+        at: at,
+    }
 }
 
-// What the ids decode to in the buffer, as far as it goes, and how long it is.
+// What the ids decode to in front of the buffer, where it fits, and how long it is.
 pub fn put_decoded(
     piece_bytes: &[u8],
     piece_offsets: &[u32],
@@ -134,7 +168,7 @@ pub fn put_decoded(
     out: &mut [u8],
 ) -> usize
     requires { ⌜ length (shownText (not begun) (chars (joinedBytes (strings (now «piece_bytes») (now «piece_offsets»)) (now ids)))) + 13 ≤ largest ⌝ }
-    ensures { λ r. ⌜ _≡_ {A = Put} (record { at = r; out = now (out .exit) }) (put (shownText (not begun) (chars (joinedBytes (strings (now («piece_bytes» .entry)) (now («piece_offsets» .entry))) (now (ids .entry))))) 0 (now (out .entry))) ⌝ }
+    ensures { λ r. ⌜ Front (shownText (not begun) (chars (joinedBytes (strings (now («piece_bytes» .entry)) (now («piece_offsets» .entry))) (now (ids .entry))))) r (now (out .exit)) ⌝ }
 {
     let progress = feed_ids(empty(begun), piece_bytes, piece_offsets, ids, out);
     put_strays(progress.decoder.count, out, progress.at)

@@ -1,5 +1,5 @@
 -- `decode::decode_checked` meets its contract: the list's size, and then the ids. Assumes nothing.
-use mathlib.Core.Path.{_≡_, refl, sym, ap, _∙_}
+use mathlib.Core.Path.{_≡_, refl, _∙_}
 use mathlib.Core.Bool.{Bool, true, false, not}
 use Rattle.model.specs.Model.{modelOf, tokenList, piecesOf, stepsOf}
 use Rattle.model.proofs.Accepted.{accepted}
@@ -43,7 +43,7 @@ unfolding piecesOf
 decode-ids-requires c κs =
     let e = c .before .before in
     let s = start (e .before) in
-    list-room (lent s) (e .if1 .left) (s .pre) (not (c .before .prepends-space .result))
+    (accepted (lent s .model) (s .pre) .pieces, list-room (lent s) (e .if1 .left) (s .pre) (not (c .before .prepends-space .result)))
 
 same-length : tie.Need-same-length
 same-length c = search needs

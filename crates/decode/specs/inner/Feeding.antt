@@ -1,6 +1,6 @@
 -- Bytes fed one after the other to a state: which characters and stray bytes each of them settles, which bytes stay held, and what
 -- is put out for what is settled.
-use Prim.Native.Nat.{ℕ, _+_}
+use Prim.Native.Nat.{ℕ, _+_, _≤_}
 use mathlib.Core.Path.{_≡_}
 use mathlib.Core.Bool.{Bool, true, false, not, cond, _&&_, _||_}
 use mathlib.Core.List.{List, [], _∷_, _++_, map}
@@ -9,6 +9,7 @@ use lib.ListN.{length, take}
 use lib.Seq.{sets}
 use Rattle.utf8.specs.Lists.{isEmpty, joinMap, same, Range, within}
 use Rattle.utf8.specs.Chars.{charForms, chars, isChar}
+use Rattle.model.specs.Model.{piece}
 use Rattle.model.specs.Mark.{mark, space}
 use Rattle.model.specs.Answers.{done, refused, filled, Outcome}
 use Rattle.decode.specs.Decode.{joinedBytes, skips, replacement}
@@ -120,6 +121,11 @@ pub record Put : Type 0 where
 unfoldable pub put : List ℕ → ℕ → List ℕ → Put
 put bytes at out = record { at = at + length bytes; out = sets out at bytes }
 
+-- A text that ends at a place, and the buffer that holds it in front where all of it fits.
+pub record Front (text : List ℕ) (at : ℕ) (out : List ℕ) : Type 0 where
+  pub size : at ≡ length text
+  pub cells : length text ≤ length out → take at out ≡ text
+
 -- What bytes put out in a state.
 unfoldable pub putOut : Decoder → List ℕ → List ℕ
 putOut s bytes = shownText (not (s .begun)) (settled (heldBy s) bytes)
@@ -144,3 +150,14 @@ idsOutcome pieces gone ids out =
     cond (ltb (length out) (length result))
     (record { answer = refused 12 0; out = out })
     (record { answer = done (length result) 0 (skips pieces ids); out = filled result out })
+
+-- ---- room
+
+-- The most bytes that a piece becomes: a byte alone may be shown as three, another piece is valid.
+abbrev pub mostOf : List ℕ → ℕ
+mostOf p = cond (eqb (length p) 1) 3 (length p)
+
+-- The same of the pieces of all ids.
+abbrev pub mostFor : List (List ℕ) → List ℕ → ℕ
+mostFor pieces [] = 0
+mostFor pieces (id ∷ ids) = mostOf (piece pieces id) + mostFor pieces ids

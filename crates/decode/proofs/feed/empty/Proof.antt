@@ -1,7 +1,6 @@
 -- `decode::feed::empty` meets its contract. Assumes nothing.
 use mathlib.Core.Path.{refl}
 use Rattle.decode.specs.inner.Feeding.{holding}
-use borrow.Author.Needs.{needs}
 use Rattle.decode.proofs.feed.empty.Statement.{statement}
 use Rattle.decode.proofs.feed.empty.Tie as tie
 

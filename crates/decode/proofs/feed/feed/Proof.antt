@@ -1,11 +1,11 @@
 -- `decode::feed::feed` meets its contract: where the byte breaks off what is held, that is put out first. Assumes nothing.
-use Prim.Native.Nat.{ℕ, _+_, _*_, _≤_}
+use Prim.Native.Nat.{ℕ, _≤_}
 use native.Mathlib.Omega.{arith}
 use mathlib.Core.Path.{_≡_, refl, sym, ap, _∙_}
 use mathlib.Core.Bool.{true, false}
-use mathlib.Core.List.{List, [], _∷_}
+use mathlib.Core.List.{List, []}
 use borrow.Author.Tests.{not-true, not-false}
-use lib.ListN.{length, replicate}
+use lib.ListN.{replicate}
 use Rattle.utf8.specs.Lists.{join}
 use Rattle.decode.specs.Decode.{replacement}
 use Rattle.decode.specs.inner.Feeding.{isOpen, isBroken, heldBy, holding}

@@ -1,13 +1,12 @@
 -- `decode::feed::hold` meets its contract: by how many bytes are held. Assumes nothing.
 use Prim.Native.Nat.{ℕ, _+_}
 use native.Mathlib.Omega.{arith}
-use mathlib.Core.Path.{_≡_, refl, sym, ap, _∙_}
+use mathlib.Core.Path.{_≡_, sym, ap}
 use mathlib.Core.List.{List, [], _∷_, _++_}
-use lib.ListN.{length, length-append}
+use lib.ListN.{length-append}
 use Rattle.decode.specs.inner.Feeding.{heldBy, holding}
 use Rattle.decode.proofs.FormLaws.{open-short}
 use Rattle.decode.proofs.StateLaws.{held-none, held-one, held-two, held-count}
-use borrow.Author.Needs.{needs}
 use Rattle.decode.proofs.feed.hold.Statement.{statement}
 use Rattle.decode.proofs.feed.hold.Tie as tie
 

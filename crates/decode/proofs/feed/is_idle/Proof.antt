@@ -1,8 +1,6 @@
 -- `decode::feed::is_idle` meets its contract. Assumes nothing.
-use mathlib.Core.Path.{sym}
 use borrow.Author.Tests.{eq-eqb, ne-eqb}
 use Rattle.decode.specs.inner.Feeding.{isIdle}
-use borrow.Author.Needs.{needs}
 use Rattle.decode.proofs.feed.is_idle.Statement.{statement}
 use Rattle.decode.proofs.feed.is_idle.Tie as tie
 

@@ -1,11 +1,11 @@
 -- `decode::feed::is_open` meets its contract: by whether bytes are held. Assumes nothing.
-use Prim.Native.Nat.{ℕ, _+_, _-_, _<_}
+use Prim.Native.Nat.{ℕ, _+_, _-_}
 use native.Mathlib.Omega.{arith}
 use mathlib.Core.Path.{_≡_, sym, ap, _∙_}
 use mathlib.Core.List.{List, [], _∷_, _++_}
 use lib.Dec.{ltb}
 use lib.ListN.{length, take}
-use Rattle.decode.specs.inner.Feeding.{isOpen, isBroken, heldBy, formOf}
+use Rattle.decode.specs.inner.Feeding.{isOpen, formOf}
 use Rattle.decode.proofs.FormLaws.{open-first, open-later}
 use Rattle.decode.proofs.StateLaws.{held-none, held-some, held-count, held-short}
 use borrow.Author.Needs.{needs}

@@ -1,9 +1,8 @@
 -- `decode::feed::is_plain` meets its contract. Assumes nothing.
-use mathlib.Core.Path.{_≡_, sym, ap, _∙_}
-use mathlib.Core.Bool.{Bool, true, false, _&&_}
+use mathlib.Core.Path.{sym, ap, _∙_}
+use mathlib.Core.Bool.{Bool, _&&_}
 use borrow.Author.Tests.{not-true, not-false}
 use lib.Dec.{ltb}
-use Rattle.decode.specs.inner.Feeding.{isIdle}
 use borrow.Author.Needs.{needs}
 use Rattle.decode.proofs.feed.is_plain.Statement.{statement}
 use Rattle.decode.proofs.feed.is_plain.Tie as tie

@@ -1,5 +1,5 @@
 -- `decode::feed::take_in` meets its contract: the byte is held, or what is held with it is put out. Assumes nothing.
-use mathlib.Core.Path.{_≡_, sym, ap, _∙_}
+use mathlib.Core.Path.{sym, ap, _∙_}
 use Rattle.decode.specs.inner.Feeding.{Fed}
 use Rattle.decode.specs.declared.Decoder.{Decoder}
 use Rattle.decode.proofs.ByteLaws.{taken-open, taken-whole}

@@ -9,7 +9,6 @@ use Rattle.utf8.proofs.Tests.{within-in}
 use Rattle.utf8.proofs.Forms.{firstOf}
 use Rattle.decode.specs.inner.Feeding.{formOf}
 use Rattle.decode.proofs.FormLaws.{form-lead, form-apart}
-use borrow.Author.Needs.{needs}
 use Rattle.decode.proofs.forms.lead_width.Statement.{statement}
 use Rattle.decode.proofs.forms.lead_width.Tie as tie
 

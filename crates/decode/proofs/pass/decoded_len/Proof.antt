@@ -1,7 +1,4 @@
 -- `decode::pass::decoded_len` meets its contract: in a buffer without cells all is only counted. Assumes nothing.
-use mathlib.Core.Path.{_∙_}
-use native.Mathlib.Nat.{zero-add}
-use Rattle.decode.proofs.StateLaws.{put-at}
 use borrow.Author.Needs.{needs}
 use Rattle.decode.proofs.pass.decoded_len.Statement.{statement}
 use Rattle.decode.proofs.pass.decoded_len.Tie as tie
@@ -13,7 +10,7 @@ put-decoded-requires : tie.Need-put-decoded-requires
 put-decoded-requires c κs = c .before .before .before .before .pre
 
 returns : tie.Need-returns
-returns c = put-at _ 0 _ (c .before .put-decoded .ensures) ∙ zero-add _
+returns c = c .before .put-decoded .ensures .size
 
 pub decoded-len-spec : {M : Type 1} → statement M
 decoded-len-spec =

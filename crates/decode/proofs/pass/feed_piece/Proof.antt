@@ -3,7 +3,7 @@ use mathlib.Core.Bool.{true}
 use Prim.Native.Nat.{ℕ, _+_, _-_, _≤_, _<_}
 use native.Mathlib.Omega.{arith}
 use native.Mathlib.Numerals.{add-one}
-use mathlib.Core.Path.{_≡_, refl, sym, ap, _∙_}
+use mathlib.Core.Path.{_≡_, sym, ap, _∙_}
 use mathlib.Core.List.{List, [], _∷_, _++_}
 use lib.ListN.{length, drop, getD, length-drop, drop-of-length-le}
 use lib.Seq.{drop-cons, drop-drop}
@@ -13,7 +13,7 @@ use Rattle.utf8.proofs.Starts.{starts-length}
 use Rattle.utf8.proofs.Joins.{starts-rest}
 use Rattle.model.specs.Mark.{mark}
 use Rattle.decode.specs.inner.Feeding.{isIdle, fed}
-use Rattle.decode.proofs.ByteLaws.{Feeding, feeding-start, feeding-room, feeding-next, feeding-ended}
+use Rattle.decode.proofs.ByteLaws.{Feeding, feeding-start, feeding-next, feeding-ended}
 use borrow.Author.Needs.{needs}
 use Rattle.decode.proofs.pass.feed_piece.Statement.{statement}
 use Rattle.decode.proofs.pass.feed_piece.Tie as tie

@@ -1,11 +1,10 @@
 -- `decode::pass::is_plain_mark` meets its contract. Assumes nothing.
-use mathlib.Core.Path.{_≡_, sym, ap, _∙_}
-use mathlib.Core.Bool.{Bool, true, false, _&&_}
+use mathlib.Core.Path.{sym, ap, _∙_}
+use mathlib.Core.Bool.{Bool, _&&_}
 use borrow.Author.Tests.{not-true, not-false}
 use lib.ListN.{drop}
 use Rattle.utf8.specs.Lists.{startsWith}
 use Rattle.model.specs.Mark.{mark}
-use Rattle.decode.specs.inner.Feeding.{isIdle}
 use borrow.Author.Needs.{needs}
 use Rattle.decode.proofs.pass.is_plain_mark.Statement.{statement}
 use Rattle.decode.proofs.pass.is_plain_mark.Tie as tie

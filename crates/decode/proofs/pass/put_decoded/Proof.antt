@@ -4,7 +4,8 @@ use mathlib.Core.List.{List}
 use Rattle.model.specs.Model.{strings}
 use Rattle.decode.specs.Decode.{joinedBytes}
 use Rattle.decode.proofs.StateLaws.{sound-empty}
-use Rattle.decode.proofs.ByteLaws.{start-room, end-room, ended}
+use Rattle.decode.proofs.ByteLaws.{start-room}
+use Rattle.decode.proofs.PassLaws.{end-room, ended}
 use borrow.Author.Needs.{needs}
 use Rattle.decode.proofs.pass.put_decoded.Statement.{statement}
 use Rattle.decode.proofs.pass.put_decoded.Tie as tie
@@ -32,7 +33,7 @@ put-strays-requires : tie.Need-put-strays-requires
 put-strays-requires c κs =
     let f = c .before .before .before in
     let s = start (made f) in
-    end-room (s .args .begun) (bytes s) (s .pre) _ (made f .empty .ensures) (s .args .out .now) _ (f .feed-ids .ensures)
+    end-room (s .args .begun) (bytes s) (s .pre) _ (made f .empty .ensures) _ _ (f .feed-ids .ensures .0) (f .feed-ids .ensures .1)
 
 same-length : tie.Need-same-length
 same-length c = search needs
@@ -42,7 +43,7 @@ returns c =
     let p = c .before .before in
     let f = p .before .before .before .before in
     let s = start (made f) in
-    ended (s .args .begun) (bytes s) (s .pre) _ (made f .empty .ensures) (s .args .out .now) _ (f .feed-ids .ensures) _ (p .put-strays .ensures)
+    ended (s .args .begun) (bytes s) (s .pre) _ (made f .empty .ensures) _ _ (f .feed-ids .ensures .0) (f .feed-ids .ensures .1) _ (p .put-strays .ensures)
 
 pub put-decoded-spec : {M : Type 1} → statement M
 put-decoded-spec =

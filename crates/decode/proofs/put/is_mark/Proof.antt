@@ -2,7 +2,7 @@
 use Prim.Native.Nat.{ℕ, _+_}
 use native.Mathlib.Omega.{arith}
 use mathlib.Core.Path.{_≡_, sym, ap, _∙_}
-use mathlib.Core.Bool.{true, false, and-false, and-true}
+use mathlib.Core.Bool.{false, and-false, and-true}
 use mathlib.Core.Logic.{⊎-elim}
 use mathlib.Core.List.{List, [], _∷_, _++_}
 use borrow.Author.Tests.{eq-eqb, ne-eqb}
@@ -14,7 +14,6 @@ use Rattle.utf8.proofs.Starts.{same-eq}
 use Rattle.model.specs.Mark.{mark}
 use Rattle.decode.specs.inner.Feeding.{heldBy}
 use Rattle.decode.proofs.StateLaws.{held-two, held-count}
-use borrow.Author.Needs.{needs}
 use Rattle.decode.proofs.put.is_mark.Statement.{statement}
 use Rattle.decode.proofs.put.is_mark.Tie as tie
 

@@ -3,7 +3,7 @@ use Prim.Native.Nat.{ℕ, _+_}
 use native.Mathlib.Omega.{arith}
 use mathlib.Core.Path.{_≡_, sym, ap, _∙_}
 use mathlib.Core.List.{List, [], _∷_, _++_}
-use Rattle.decode.specs.inner.Feeding.{heldBy, put}
+use Rattle.decode.specs.inner.Feeding.{put}
 use Rattle.decode.proofs.StateLaws.{held-one, held-two, held-three, held-count, put-then, put-at}
 use borrow.Author.Needs.{needs}
 use Rattle.decode.proofs.put.put_held.Statement.{statement}

@@ -1,14 +1,14 @@
 -- `decode::put::put_settled` meets its contract: a byte alone, a character, or a mark. Assumes nothing.
-use Prim.Native.Nat.{ℕ, _+_, _≤_, _<_}
+use Prim.Native.Nat.{ℕ, _+_, _<_}
 use native.Mathlib.Omega.{arith}
 use mathlib.Core.Path.{_≡_, sym, ap, _∙_}
-use mathlib.Core.Bool.{false, not}
+use mathlib.Core.Bool.{not}
 use mathlib.Core.List.{List, [], _∷_, _++_}
 use borrow.Author.Tests.{not-true, not-false}
 use lib.ListN.{length, length-append}
 use Rattle.utf8.proofs.Starts.{same-eq}
 use Rattle.model.specs.Mark.{mark, space}
-use Rattle.decode.specs.inner.Feeding.{isOpen, heldBy, shownFirst, put}
+use Rattle.decode.specs.inner.Feeding.{heldBy, shownFirst, put}
 use Rattle.decode.proofs.FormLaws.{whole-later}
 use Rattle.decode.proofs.TextLaws.{shown-wide, shown-mark}
 use Rattle.decode.proofs.StateLaws.{held-none, held-count, put-nothing}

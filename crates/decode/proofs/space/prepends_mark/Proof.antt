@@ -1,5 +1,4 @@
 -- `decode::space::prepends_mark` meets its contract. Assumes nothing.
-use mathlib.Core.Path.{sym, ap}
 use Rattle.decode.specs.Decode.{prependsMark}
 use borrow.Author.Needs.{needs}
 use Rattle.decode.proofs.space.prepends_mark.Statement.{statement}
