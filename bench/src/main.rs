@@ -247,16 +247,22 @@ fn decode_row<'a>(all: &mut Vec<Timed<'a>>, forms: &'a Forms, plain: &'a Plain, 
     let (mut cells, mut scratch) = lent(text);
     let written = forms.encode_into(text.as_bytes(), &mut cells, &mut scratch);
     let ids: Vec<u32> = cells[..written].to_vec();
-    let mut add = Rows { all, row: "decode", bytes: text.len() };
     if forms.library.has_decode() {
-        let (ids, mut out) = (ids.clone(), vec![0; text.len() + 8]);
-        add.side("prepared", move || {
-            let answer = forms.library.decode(&forms.tables, true, black_box(&ids), &mut out);
-            assert_eq!((answer.number, answer.written), (0, text.len()));
-        });
+        // The room that always suffices, as include/varitmol.h works it out, and the text's length.
+        let offsets = &forms.tables.piece_offsets;
+        let lengths = ids.iter().map(|&id| offsets[id as usize + 1] - offsets[id as usize]);
+        let room: u32 = lengths.map(|length| if length == 1 { 3 } else { length }).sum();
+        for (row, room) in [("decode", room as usize), ("decode, no room to spare", text.len())] {
+            let (ids, mut out) = (ids.clone(), vec![0; room]);
+            Rows { all, row, bytes: text.len() }.side("prepared", move || {
+                let answer = forms.library.decode(&forms.tables, true, black_box(&ids), &mut out);
+                assert_eq!((answer.number, answer.written), (0, text.len()));
+            });
+        }
     } else {
         eprintln!("the library has no varitmol_decode: it is left out");
     }
+    let mut add = Rows { all, row: "decode", bytes: text.len() };
     let tokens: Vec<TokenId> = ids.iter().map(|&id| TokenId(id)).collect();
     assert!(forms.rust.decode(&tokens) == text.as_bytes(), "the Rust's decode does not give the text");
     add.side("Rust, fresh", move || {
