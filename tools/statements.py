@@ -19,7 +19,7 @@ import sys
 from complaints import run
 
 ROOT = pathlib.Path(__file__).resolve().parent.parent
-CRATES = "utf8 model index normalise units merge sections records prepare encode fragments decode varitmol".split()
+CRATES = "utf8 model index normalise units merge sections records prepare stretches encode fragments decode varitmol".split()
 PAGE = ROOT / "docs" / "STATEMENTS.md"
 LAWS = ROOT / "crates" / "theorems" / "specs" / "Settled.antt"
 FUNCTION = re.compile(r'^( *)pub(?:\(crate\))? (?:extern "C" )?fn (\w+)', re.M)

@@ -1,12 +1,13 @@
 -- A text of bytes is one of bytes after the steps, after the second list and after metaspace. Assumes nothing.
-use Prim.Native.Nat.{ℕ, zero, suc, _+_, _-_, max}
+use Prim.Native.Nat.{ℕ, zero, suc, _+_, _-_, _<_, max}
 use native.Mathlib.Omega.{arith}
 use mathlib.Core.Path.{_≡_, refl}
 use mathlib.Core.Bool.{Bool, true, false, not, cond, _&&_}
 use mathlib.Core.Option.{Option, none, some}
 use mathlib.Core.List.{List, [], _∷_, _++_}
 use lib.Dec.{eqb, leb}
-use lib.ListN.{length, drop}
+use lib.ListN.{length, take, drop}
+use lib.Seq.{slice}
 use Rattle.utf8.specs.Lists.{isEmpty, joinMap, cutFor, same, startsWith, lastOr}
 use Rattle.utf8.specs.Chars.{chars, charWidth}
 use Rattle.utf8.specs.WhiteSpace.{trimStart, trimEnd}
@@ -20,14 +21,16 @@ use Rattle.model.specs.declared.Metaspace.{Metaspace}
 use Rattle.model.specs.declared.Metaspace.the-variants.{Absent, Present}
 use Rattle.normalise.specs.Steps.{prepended, occurrences, replaced, spaceRun, collapsed, stripped, applied, outputsOf}
 use Rattle.normalise.specs.Spaces.{spacesMarked, schemePrepends, markPrepended, metaspaceOutput, metaspaced}
+use Rattle.units.specs.declared.RawPrepend.{RawPrepend}
 use Rattle.units.proofs.AdjacencyLaws.{Small}
 use Rattle.sections.specs.Matches.{Match, firstMatch}
 use Rattle.sections.specs.Sections.{Item, token, plain, takenApart, stopBefore, startAfter, Section, bytesOf}
 use Rattle.sections.specs.SecondList.{NormalPart, normalPartOf, normalPartsAround, normalPartsFor, normalParts}
-use Rattle.encode.specs.Parts.{Stretch, stretch}
+use Rattle.stretches.specs.Stretches.{Stretch, stretch}
+use Rattle.stretches.proofs.WriterLaws.{Each, none-left, one-more, each, each-append}
+use Rattle.stretches.proofs.DerivedLaws.{OfBytes, token-fine, bytes-fine}
+use Rattle.encode.specs.Parts.{virtualMark, rawStretch}
 use Rattle.encode.specs.inner.Passes.{Normal, partStretch, partsIn, stretchesIn, sectionStretches}
-use Rattle.encode.proofs.WriterLaws.{Each, none-left, one-more, each, each-append}
-use Rattle.encode.proofs.DerivedLaws.{each-take, each-drop, each-slice, Bytes, bytes-small, small-bytes, OfBytes, token-fine, bytes-fine}
 
 -- ---- what holds of each element
 
@@ -36,6 +39,19 @@ on-cond P true p q = p
 on-cond P false p q = q
 
 module _ {A : Type 0} {P : A → Type 0} where
+  pub each-take : (n : ℕ) {xs : List A} → Each P xs → Each P (take n xs)
+  each-take zero ps = none-left
+  each-take (suc n) none-left = none-left
+  each-take (suc n) (one-more p ps) = one-more p (each-take n ps)
+
+  pub each-drop : (n : ℕ) {xs : List A} → Each P xs → Each P (drop n xs)
+  each-drop zero ps = ps
+  each-drop (suc n) none-left = none-left
+  each-drop (suc n) (one-more p ps) = each-drop n ps
+
+  pub each-slice : (from to : ℕ) {xs : List A} → Each P xs → Each P (slice from to xs)
+  each-slice from to ps = each-drop from (each-take to ps)
+
   each-cut : (turns : ℕ) (width : List A → ℕ) {xs : List A} → Each P xs → Each (Each P) (cutFor turns width xs)
   each-cut zero width ps = none-left
   each-cut (suc turns) width none-left = none-left
@@ -47,6 +63,18 @@ each-joined f holds none-left = none-left
 each-joined f holds (one-more p ps) = each-append (holds _ p) (each-joined f holds ps)
 
 -- ---- lists of bytes
+
+abbrev pub Bytes : List ℕ → Type 0
+Bytes l = Each (λ (b : ℕ). b < 256) l
+
+pub bytes-small : {l : List ℕ} → Bytes l → Small l
+bytes-small none-left i = omega arith
+bytes-small (one-more p ps) zero = p
+bytes-small (one-more p ps) (suc i) = bytes-small ps i
+
+pub small-bytes : (l : List ℕ) → Small l → Bytes l
+small-bytes [] small = none-left
+small-bytes (x ∷ l) small = one-more (small 0) (small-bytes l (λ i. small (suc i)))
 
 mark-bytes : Bytes mark
 unfolding mark
@@ -152,13 +180,21 @@ stretches-bytes n steps opening {section} h =
     taken-bytes (partStretch (n .metaspace)) (λ part p. stretch-bytes false false (metaspaced-bytes (n .metaspace) (part .first) p))
     (parts-for (length (lastOr section (outputsOf (n .stepBytes) (n .steps) section))) (n .second) opening (stepped-bytes (small-bytes (n .stepBytes) steps) (n .steps) h))
 
--- and so do the sections of a text.
+any-section : (item : Item Section) → Between (λ (section : Section). section ≡ section) item
+any-section (token id) = token-is
+any-section (plain section) = plain-is refl
+
+-- and so do the sections of a text, off the raw path
 pub normal-bytes : (n : Normal) (text : List ℕ) → Small (n .stepBytes) → Small text → (items : List (Item Section)) → Each OfBytes (takenApart (sectionStretches n text) items)
 unfolding bytesOf
 normal-bytes n text steps small items =
     taken-bytes {P = λ (section : Section). section ≡ section} (sectionStretches n text)
-    (λ section p. stretches-bytes n steps (section .opening) (each-slice (section .start) (section .stop) (small-bytes text small))) (each any-item items)
-  where
-    any-item : (item : Item Section) → Between (λ (section : Section). section ≡ section) item
-    any-item (token id) = token-is
-    any-item (plain section) = plain-is refl
+    (λ section p. stretches-bytes n steps (section .opening) (each-slice (section .start) (section .stop) (small-bytes text small))) (each any-section items)
+
+-- and on it.
+pub raw-bytes : (prepend : RawPrepend) (continuation : Bool) (text : List ℕ) → Small text → (items : List (Item Section)) → Each OfBytes (takenApart (rawStretch prepend continuation text) items)
+unfolding rawStretch bytesOf
+raw-bytes prepend continuation text small items =
+    taken-bytes {P = λ (section : Section). section ≡ section} (rawStretch prepend continuation text)
+    (λ section p. stretch-bytes (virtualMark prepend continuation (section .opening) (slice (section .start) (section .stop) text)) true (each-slice (section .start) (section .stop) (small-bytes text small)))
+    (each any-section items)

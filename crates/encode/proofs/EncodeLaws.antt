@@ -24,11 +24,12 @@ use Rattle.units.specs.declared.RawPath.the-variants.{Absent, Present}
 use Rattle.units.proofs.AdjacencyLaws.{Small}
 use Rattle.sections.specs.Sections.{Item, token, plain, takenApart, Section, bytesOf, sections}
 use Rattle.sections.specs.SecondList.{NormalPart}
+use Rattle.stretches.specs.Stretches.{held}
+use Rattle.stretches.proofs.DerivedLaws.{tablesOf}
 use Rattle.encode.specs.Parts.{rawStretch, normalStretch, normalPartsOf, stretchesOf, parts}
 use Rattle.encode.specs.Encode as definitions
-use Rattle.encode.specs.Encode.{metaspaceOutputOf, encodedIds, drops, startingCount, encodeOutputs, held, encodeNumber, encodeOutcome}
+use Rattle.encode.specs.Encode.{metaspaceOutputOf, encodedIds, drops, startingCount, encodeOutputs, encodeNumber, encodeOutcome}
 use Rattle.encode.specs.inner.Passes.{partsOutcome, itemOutputs, partStretch, partOutputs, Normal, partsIn, stretchesIn, outputsIn, sectionStretches, sectionOutputs, normalOutcome}
-use Rattle.encode.proofs.DerivedLaws.{tablesOf}
 use Rattle.encode.proofs.OutcomeLaws.{outcome-meant, raw-meant}
 use Rattle.encode.proofs.BytesLaws.{normal-bytes}
 

@@ -13,11 +13,11 @@ use Rattle.utf8.proofs.Places.{any-append}
 use Rattle.normalise.specs.Normalise.{outgrows}
 use Rattle.merge.specs.declared.Symbols.{Symbols}
 use Rattle.sections.specs.Sections.{Item, token, plain, takenApart}
+use Rattle.stretches.specs.Stretches.{Stretch, held}
+use Rattle.stretches.specs.inner.Parts.{partsSymbols}
 use Rattle.encode.specs.declared.Counted.{Counted}
 use Rattle.encode.specs.declared.Counted.the-variants.{Counts, TooLong}
-use Rattle.encode.specs.Parts.{Stretch}
-use Rattle.encode.specs.Encode.{held}
-use Rattle.encode.specs.inner.Passes.{partsSymbols, counted, itemOutputs}
+use Rattle.encode.specs.inner.Passes.{counted, itemOutputs}
 use Rattle.encode.proofs.PassLaws.{Tallying, tallying-start, tallying-next, tallying-token, tallying-full, tallying-ended, counted-most}
 
 -- ---- what a pass found

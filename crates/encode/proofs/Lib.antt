@@ -1,15 +1,10 @@
 -- Laws on the definitions of this crate, for its proofs and those of the crates above it.
-pub mod WriterLaws
-pub mod StretchLaws
-pub mod RepeatLaws
 pub mod PassLaws
 pub mod ItemLaws
 pub mod WalkLaws
 pub mod NormalLaws
 pub mod PartLaws
 pub mod SteppedLaws
-pub mod ModelLaws
-pub mod DerivedLaws
-pub mod OutcomeLaws
 pub mod BytesLaws
+pub mod OutcomeLaws
 pub mod EncodeLaws

@@ -19,10 +19,11 @@ use Rattle.normalise.specs.Spaces.{spacesMarked, markPrepended, schemePrepends,
 use Rattle.normalise.specs.inner.Fit.{Put, put}
 use Rattle.merge.specs.inner.Turns.{Merged}
 use Rattle.merge.specs.declared.Symbols.{Symbols}
+use Rattle.stretches.specs.Stretches.{stretch}
+use Rattle.stretches.specs.inner.Tables.{Tables}
+use Rattle.stretches.specs.inner.Parts.{partsSymbols, partsWriter}
 use Rattle.encode.specs.declared.Counted.{Counted}
-use Rattle.encode.specs.Parts.{stretch}
-use Rattle.encode.specs.inner.Tables.{Tables}
-use Rattle.encode.specs.inner.Passes.{partsSymbols, partsWriter, counted, unlessLong}
+use Rattle.encode.specs.inner.Passes.{counted, unlessLong}
 
 -- ---- an output put into a buffer that has the room
 

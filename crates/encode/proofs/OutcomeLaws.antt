@@ -23,16 +23,19 @@ use Rattle.merge.specs.declared.Symbols.{Symbols}
 use Rattle.normalise.specs.Normalise.{outgrows}
 use Rattle.prepare.specs.Prepare.{derivedAdjacency, derivedIndex}
 use Rattle.sections.specs.Sections.{Item, takenApart, sections}
+use Rattle.stretches.specs.Stretches.{Stretch, idsOf, dropsOf, startsOf, held}
+use Rattle.stretches.specs.inner.Tables.{Tables, ownIn}
+use Rattle.stretches.specs.inner.Parts.{partsSymbols, partsWriter}
+use Rattle.stretches.proofs.WriterLaws.{Each}
+use Rattle.stretches.proofs.PartLaws.{keeps-parts}
+use Rattle.stretches.proofs.DerivedLaws.{tablesOf, OfBytes, parts-counted, parts-written}
 use Rattle.encode.specs.declared.Counted.{Counted}
 use Rattle.encode.specs.declared.Counted.the-variants.{Counts, TooLong}
-use Rattle.encode.specs.Parts.{Stretch, rawStretch, stretchesOf, parts}
-use Rattle.encode.specs.Encode.{idsOf, encodedIds, dropsOf, drops, startsOf, startingCount, held}
-use Rattle.encode.specs.inner.Tables.{Tables, ownIn}
-use Rattle.encode.specs.inner.Passes.{partsSymbols, partsWriter, partsOutcome, counted, itemOutputs, Normal, sectionStretches, sectionOutputs, normalOutcome}
-use Rattle.encode.proofs.WriterLaws.{Each}
-use Rattle.encode.proofs.PassLaws.{keeps-parts}
+use Rattle.encode.specs.Parts.{rawStretch, stretchesOf, parts}
+use Rattle.encode.specs.Encode.{encodedIds, drops, startingCount}
+use Rattle.encode.specs.inner.Passes.{partsOutcome, counted, itemOutputs, Normal, sectionStretches, sectionOutputs, normalOutcome}
 use Rattle.encode.proofs.ItemLaws.{counts-found, long-found}
-use Rattle.encode.proofs.DerivedLaws.{tablesOf, OfBytes, raw-bytes, parts-counted, parts-written}
+use Rattle.encode.proofs.BytesLaws.{raw-bytes}
 
 module _ (t : Tables) (parts : List (Item Stretch)) (out : List ℕ) where
   module _ {s : Symbols} (counted : s ≡ partsSymbols (ownIn (t .index) (t .pieceBytes) (t .pieceOffsets) (t .lookup)) (t .fallback) parts (length out + 1)) where

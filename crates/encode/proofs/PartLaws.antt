@@ -22,10 +22,11 @@ use Rattle.sections.specs.declared.Next.the-variants.{Plain, Added, Finished}
 use Rattle.sections.proofs.SeekLaws.{first-sound}
 use Rattle.sections.proofs.PartLaws.{partsLeft, partsGiven, parts-step}
 use Rattle.sections.proofs.StepLaws.{stepsLeft, stepsGiven, fewer-steps}
+use Rattle.stretches.specs.Stretches.{stretch}
+use Rattle.stretches.specs.inner.Tables.{Tables}
+use Rattle.stretches.specs.inner.Parts.{partsSymbols, partsWriter}
 use Rattle.encode.specs.declared.Counted.{Counted}
-use Rattle.encode.specs.Parts.{stretch}
-use Rattle.encode.specs.inner.Tables.{Tables}
-use Rattle.encode.specs.inner.Passes.{partsSymbols, partsWriter, counted, unlessLong, partStretch}
+use Rattle.encode.specs.inner.Passes.{counted, unlessLong, partStretch}
 
 module _ (t : TokenList) (text begins : List ℕ) (sound : begins ≡ beginnings (contents t) (length begins)) (fine : badToken (contents t) ≡ false) (cursor : Cursor) {item : Next} (is : item ≡ nextItem t begins true text cursor) where
   here : partsLeft t text cursor ≡ partsGiven t text item

@@ -1,45 +1,30 @@
 -- Laws of the two passes over the parts of a text: part by part. Assumes nothing.
-use Prim.Native.Nat.{ℕ, zero, suc, _+_, _-_, _≤_, _<_, min, max}
+use Prim.Native.Nat.{ℕ, zero, suc, _+_, _-_, _≤_, _<_, min}
 use native.Mathlib.Omega.{arith}
-use native.Mathlib.Nat.{add-zero, zero-add, zero-min}
+use native.Mathlib.Nat.{zero-add}
 use mathlib.Core.Path.{_≡_, refl, sym, ap, ap₂, _∙_, subst}
 use mathlib.Core.Bool.{Bool, true, false, not, and-false}
 use mathlib.Core.Option.{Option}
 use mathlib.Core.List.{List, [], _∷_, _++_, map, map-append}
-use borrow.Author.Tests.{not-true, not-false, ne-eqb, lt-ltb}
+use borrow.Author.Tests.{not-true, not-false, lt-ltb}
 use lib.Dec.{eqb, ltb, eqb·suc-zero}
-use lib.ListN.{length, getD, take, drop, set, length-drop, length-map}
+use lib.ListN.{length, take, drop, set}
 use lib.Seq.{slice}
-use Rattle.utf8.specs.Lists.{sum, joinMap}
-use Rattle.utf8.specs.Lists as lists
-use Rattle.utf8.specs.Chars.{chars, charWidth}
-use Rattle.utf8.proofs.Lists.{by-length}
-use Rattle.utf8.proofs.Places.{empty-by-length}
-use Rattle.utf8.proofs.Counts.{count-within}
-use Rattle.utf8.proofs.Characters.{chars-nil, chars-step}
-use Rattle.model.specs.Model.{strings}
-use Rattle.model.specs.Mark.{mark, markWidth, startsWithMark}
-use Rattle.units.specs.Next.{unitsFrom}
-use Rattle.units.specs.Units.{cutBy}
-use Rattle.units.specs.Adjacency.{pairNoted}
-use Rattle.units.specs.Derived.{namedCrossings}
-use Rattle.units.specs.declared.WordSplit.{WordSplit}
+use Rattle.utf8.specs.Lists.{sum}
+use Rattle.model.specs.Mark.{markWidth, startsWithMark}
 use Rattle.units.specs.declared.RawPrepend.{RawPrepend}
 use Rattle.units.specs.declared.RawPrepend.the-variants.{Never, Unguarded, GuardedAlways, GuardedFirst}
-use Rattle.merge.specs.Start.{startingIdsBy, isDroppedBy, asMark, unitChars, withVirtualMark}
-use Rattle.merge.specs.inner.Laid.{laid, ownFound, markedChars, unitSymbols}
-use Rattle.merge.specs.inner.Turns.{rowIn, Merged}
+use Rattle.merge.specs.inner.Laid.{laid}
+use Rattle.merge.specs.inner.Turns.{Merged}
 use Rattle.merge.specs.declared.Symbols.{Symbols}
-use Rattle.merge.proofs.Laying.{length-laid}
-use Rattle.prepare.specs.Layout.{kindAt, crossingCountAt, crossingsAt, markIdAt, shiftAt, firstBytesAt, bucketsAt, firstTokensAt}
-use Rattle.prepare.specs.Numbers.{kindFrom}
-use Rattle.sections.specs.Sections.{Item, token, plain, bytesOf}
-use Rattle.encode.specs.Parts.{Stretch, prependsMark, virtualMark, stretch, rawStretch}
-use Rattle.encode.specs.Encode.{held}
-use Rattle.encode.specs.inner.Writers.{Writer, inTurn, unitWriter, stretchWriter, unitWriters}
-use Rattle.encode.specs.inner.Tables.{Tables, words, ownIn, rowsIn, cutsIn, stretchIn}
-use Rattle.encode.specs.inner.Passes.{partStarts, partDrops, partsSymbols, idWriter, partWriter, partsWriter}
-use Rattle.encode.proofs.WriterLaws.{Keeps, keeps-all, keeps-unit, Going, going-fits, going-on, going-next, going-ended, turn-append, turn-one}
+use Rattle.sections.specs.Sections.{Item, token, bytesOf}
+use Rattle.stretches.specs.Stretches.{Stretch, stretch, held}
+use Rattle.stretches.specs.inner.Writers.{Writer, inTurn}
+use Rattle.stretches.specs.inner.Tables.{Tables}
+use Rattle.stretches.specs.inner.Parts.{partStarts, partDrops, partsSymbols, idWriter, partWriter, partsWriter}
+use Rattle.stretches.proofs.WriterLaws.{keeps-all, Going, going-fits, going-on, going-next, going-ended, turn-append}
+use Rattle.stretches.proofs.PartLaws.{keeps-id, keeps-part}
+use Rattle.encode.specs.Parts.{prependsMark, virtualMark, rawStretch}
 
 -- ---- the virtual mark
 
@@ -85,76 +70,8 @@ module _ (prepend : RawPrepend) (continuation opening : Bool) (bytes : List ℕ)
   unfolding virtualMark
   mark-later o = rw (o, and-false continuation)
 
--- ---- a stretch has no more characters than bytes, and one
+-- ---- a stretch by a virtual mark that was found
 
-chars-few : (t : List ℕ) → length (chars t) ≤ length t
-chars-few = by-length (λ (t : List ℕ). length (chars t) ≤ length t) turn
-  where
-    turn : (t : List ℕ) → ((u : List ℕ) → length u < length t → length (chars u) ≤ length u) → length (chars t) ≤ length t
-    turn [] less = omega (arith, ap length chars-nil)
-    turn (b ∷ u) less =
-        let t = b ∷ u in
-        let w = max 1 (charWidth t) in
-        omega (arith, ap length (chars-step t (omega arith)), less (drop w t) (omega (arith, length-drop w t)), length-drop w t)
-
-marked-few : (virtual raw : Bool) (bytes : List ℕ) → length (markedChars virtual raw bytes) ≤ length bytes + 1
-unfolding markedChars unitChars
-marked-few true raw bytes = omega (arith, length-map (chars bytes) (asMark raw), chars-few bytes)
-marked-few false raw bytes = omega (arith, length-map (chars bytes) (asMark raw), chars-few bytes)
-
--- ---- one section
-
-module _ (own : List ℕ → Option ℕ) (fallback : List ℕ) (bytes : List ℕ) (virtual raw : Bool) (room : ℕ) where
-  pub nothing-counted : length bytes ≡ 0 → _≡_ {A = Symbols} (record { count = 0; drops = 0 }) (partsSymbols own fallback (stretch bytes virtual raw) room)
-  unfolding partsSymbols stretch
-  nothing-counted e = rw (empty-by-length bytes, e) (rw (zero-min room))
-
-  -- A buffer has less than 2^63 bytes, so an answer holds the drops of one stretch.
-  pub section-counted : (length bytes ≡ 0 → ⊥) → length bytes < 9223372036854775808 → unitSymbols own fallback (markedChars virtual raw bytes) room ≡ partsSymbols own fallback (stretch bytes virtual raw) room
-  unfolding partsSymbols stretch unitSymbols partStarts partDrops
-  section-counted e h =
-      let all = markedChars virtual raw bytes in
-      let lost = lists.count (isDroppedBy own fallback) all in
-      let whole : lost ≡ held (lost + 0) = omega (arith, count-within (isDroppedBy own fallback) all, marked-few virtual raw bytes) in
-      rw (empty-by-length bytes, ne-eqb (length bytes) 0 e)
-      (rw (add-zero (length (joinMap (startingIdsBy own fallback) all))) (ap {B = Symbols} (λ (n : ℕ). record { count = min (length (joinMap (startingIdsBy own fallback) all)) room; drops = n }) whole))
-
--- The count by the index.
-pub stretch-told : (index pieceBytes pieceOffsets lookup fallback bytes : List ℕ) (virtual raw : Bool) (room : ℕ) {id : ℕ} {s : Symbols}
-    → s ≡ unitSymbols (ownFound pieceBytes pieceOffsets lookup (words firstBytesAt bucketsAt index) id) fallback (markedChars virtual raw bytes) room
-    → id ≡ getD index markIdAt 0 → (length bytes ≡ 0 → ⊥) → length bytes < 9223372036854775808
-    → s ≡ partsSymbols (ownIn index pieceBytes pieceOffsets lookup) fallback (stretch bytes virtual raw) room
-unfolding ownIn
-stretch-told index pieceBytes pieceOffsets lookup fallback bytes virtual raw room e i some short =
-    e
-    ∙ ap (λ (id : ℕ). unitSymbols (ownFound pieceBytes pieceOffsets lookup (words firstBytesAt bucketsAt index) id) fallback (markedChars virtual raw bytes) room) i
-    ∙ section-counted (ownIn index pieceBytes pieceOffsets lookup) fallback bytes virtual raw room some short
-
--- The writer by the index.
-pub stretch-found : (t : Tables) (virtual raw : Bool) (bytes out : List ℕ) {kind : WordSplit} {count id shift : ℕ} {done : Merged}
-    → done
-    ≡ stretchWriter (rowIn (t .left) (t .right) (t .result) (t .rank) (words bucketsAt firstTokensAt (t .index)) shift) (ownFound (t .pieceBytes) (t .pieceOffsets) (t .lookup) (words firstBytesAt bucketsAt (t .index)) id) (t .fallback) (cutBy kind (namedCrossings (strings (t .pieceBytes) (t .pieceOffsets)) (words crossingsAt markIdAt (t .index)) count) (pairNoted (t .adjacency)) raw bytes) virtual raw bytes out
-    → kind ≡ kindFrom (getD (t .index) kindAt 0) → count ≡ getD (t .index) crossingCountAt 0 → id ≡ getD (t .index) markIdAt 0 → shift ≡ getD (t .index) shiftAt 0
-    → done ≡ stretchIn t virtual raw bytes out
-unfolding stretchIn ownIn rowsIn cutsIn
-stretch-found t virtual raw bytes out e k c i s = e ∙ rw (k, c, i, s)
-
-pub keeps-stretch : (t : Tables) (virtual raw : Bool) (bytes : List ℕ) → Keeps (stretchIn t virtual raw bytes)
-unfolding stretchIn stretchWriter unitWriters
-keeps-stretch t virtual raw bytes =
-    let own = ownIn (t .index) (t .pieceBytes) (t .pieceOffsets) (t .lookup) in
-    keeps-all (unitWriter (rowsIn t) own (t .fallback)) (keeps-unit (rowsIn t) own (t .fallback)) (withVirtualMark virtual (map (unitChars raw) (unitsFrom (cutsIn t raw bytes) bytes 0)))
-
-module _ (t : Tables) (bytes : List ℕ) (virtual raw : Bool) (out : List ℕ) where
-  pub nothing-written : length bytes ≡ 0 → _≡_ {A = Merged} (record { count = 0; ids = out }) (partsWriter t (stretch bytes virtual raw) out)
-  unfolding partsWriter stretch inTurn
-  nothing-written e = rw (empty-by-length bytes, e)
-
-  pub section-written : (length bytes ≡ 0 → ⊥) → stretchIn t virtual raw bytes out ≡ partsWriter t (stretch bytes virtual raw) out
-  unfolding partsWriter stretch partWriter
-  section-written e = rw (empty-by-length bytes, ne-eqb (length bytes) 0 e) (sym (turn-one (stretchIn t virtual raw bytes) out))
-
--- The same by a virtual mark that was found.
 pub counted-marked : (own : List ℕ → Option ℕ) (fallback bytes : List ℕ) (virtual raw : Bool) (room : ℕ) {mark : Bool} {s : Symbols}
     → s ≡ partsSymbols own fallback (stretch bytes mark raw) room → mark ≡ virtual → s ≡ partsSymbols own fallback (stretch bytes virtual raw) room
 counted-marked own fallback bytes virtual raw room e v = e ∙ ap (λ (mark : Bool). partsSymbols own fallback (stretch bytes mark raw) room) v
@@ -181,19 +98,6 @@ module _ (id : ℕ) (out : List ℕ) where
       go : (l : List ℕ) → (length l ≡ 0 → ⊥) → _≡_ {A = Merged} (record { count = 1; ids = set l 0 id }) (record { count = min 1 (length l); ids = laid (id ∷ []) l })
       go [] e = absurd (e refl)
       go (x ∷ l) e = let one : 1 ≡ min 1 (suc (length l)) = omega arith in ap {B = Merged} (λ (n : ℕ). record { count = n; ids = id ∷ l }) one
-
-pub keeps-id : (id : ℕ) → Keeps (idWriter id)
-unfolding idWriter
-keeps-id id = record { long = λ out. length-laid (id ∷ []) out; inside = λ out. omega arith }
-
-pub keeps-part : (t : Tables) (part : Item Stretch) → Keeps (partWriter t part)
-unfolding partWriter
-keeps-part t (token id) = keeps-id id
-keeps-part t (plain s) = keeps-stretch t (s .virtual) (s .raw) (s .bytes)
-
-pub keeps-parts : (t : Tables) (parts : List (Item Stretch)) → Keeps (partsWriter t parts)
-unfolding partsWriter
-keeps-parts t parts = keeps-all (partWriter t) (keeps-part t) parts
 
 -- ---- the first pass
 

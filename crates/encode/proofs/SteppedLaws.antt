@@ -22,10 +22,11 @@ use Rattle.normalise.proofs.StandLaws.{run-too-long, run-stands}
 use Rattle.merge.specs.inner.Turns.{Merged}
 use Rattle.sections.specs.Sections.{takenApart, Section, bytesOf}
 use Rattle.sections.specs.SecondList.{normalParts}
+use Rattle.stretches.specs.inner.Tables.{Tables}
+use Rattle.stretches.specs.inner.Parts.{partsSymbols, partsWriter}
 use Rattle.encode.specs.declared.Counted.{Counted}
 use Rattle.encode.specs.declared.Counted.the-variants as found
-use Rattle.encode.specs.inner.Tables.{Tables}
-use Rattle.encode.specs.inner.Passes.{partsSymbols, partsWriter, counted, itemOutputs, partStretch, partOutputs, Normal, partsIn, stretchesIn, outputsIn, sectionStretches, sectionOutputs}
+use Rattle.encode.specs.inner.Passes.{counted, itemOutputs, partStretch, partOutputs, Normal, partsIn, stretchesIn, outputsIn, sectionStretches, sectionOutputs}
 
 -- No step's output is too long, and cur is what the steps leave.
 pub record Stepped (n : Normal) (section : List ℕ) (room : ℕ) (cur : List ℕ) : Type 0 where

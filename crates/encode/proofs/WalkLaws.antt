@@ -16,7 +16,7 @@ use Rattle.sections.specs.declared.Next.the-variants.{Plain, Added, Finished}
 use Rattle.sections.proofs.SeekLaws.{first-sound}
 use Rattle.sections.proofs.SectionLaws.{sectionsLeft, sectionsGiven, sections-start, sections-step}
 use Rattle.sections.proofs.StepLaws.{stepsLeft, stepsGiven, fewer-steps}
-use Rattle.encode.specs.Parts.{Stretch}
+use Rattle.stretches.specs.Stretches.{Stretch}
 
 module _ (f : Section → List (Item Stretch)) (t : TokenList) (text : List ℕ) where
   -- The parts from a cursor on.

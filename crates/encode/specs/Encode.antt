@@ -4,51 +4,27 @@ use mathlib.Core.Bool.{Bool, not, _&&_}
 use mathlib.Core.List.{List, [], _∷_, _++_, map}
 use lib.Dec.{ltb}
 use lib.ListN.{length}
-use Rattle.utf8.specs.Lists.{join, joinMap, count, sum}
+use Rattle.utf8.specs.Lists.{joinMap, sum}
 use Rattle.utf8.specs.Chars.{valid}
-use Rattle.model.specs.Model.{Model, rowOf, mergeRows}
+use Rattle.model.specs.Model.{Model}
 use Rattle.model.specs.Answers.{lowest, done, placeOf, outcome, ScratchOutcome, withScratch}
 use Rattle.model.specs.Check.{modelTests}
 use Rattle.normalise.specs.Steps.{stepOutputs}
 use Rattle.normalise.specs.Spaces.{metaspaceOutput}
 use Rattle.normalise.specs.Normalise.{outgrows}
 use Rattle.units.specs.Kinds.{rawPath, hasRawPath}
-use Rattle.units.specs.Units.{units}
 use Rattle.units.specs.declared.RawPath.{RawPath}
 use Rattle.units.specs.declared.RawPath.the-variants.{Absent, Present}
-use Rattle.merge.specs.Start.{vocabularyOf, startingIds, isDropped, unitChars, withVirtualMark}
-use Rattle.merge.specs.Merge.{merged}
 use Rattle.sections.specs.Sections.{Item, token, plain, Section, bytesOf, sections}
 use Rattle.sections.specs.SecondList.{NormalPart}
-use Rattle.encode.specs.Parts.{Stretch, normalPartsOf, parts}
-
--- The units of a stretch, each as its characters.
-unfoldable pub stretchUnits : Model → Stretch → List (List (List ℕ))
-stretchUnits m s = withVirtualMark (s .virtual) (map (unitChars (s .raw)) (units m (s .raw) (s .bytes)))
-
--- The starting ids of a unit, merged.
-unfoldable pub unitIds : Model → List (List ℕ) → List ℕ
-unitIds m unit = merged (rowOf (mergeRows m)) (joinMap (startingIds (vocabularyOf m)) unit)
-
-unfoldable pub idsOf : Model → Item Stretch → List ℕ
-idsOf m (token id) = id ∷ []
-idsOf m (plain s) = joinMap (unitIds m) (stretchUnits m s)
+use Rattle.stretches.specs.Stretches.{idsOf, dropsOf, startsOf, held}
+use Rattle.encode.specs.Parts.{normalPartsOf, parts}
 
 unfoldable pub encodedIds : Model → Bool → List ℕ → List ℕ
 encodedIds m continuation text = joinMap (idsOf m) (parts m continuation text)
 
--- Rule 9.4: the drops of a stretch.
-unfoldable pub dropsOf : Model → Item Stretch → ℕ
-dropsOf m (token id) = 0
-dropsOf m (plain s) = count (isDropped (vocabularyOf m)) (join (stretchUnits m s))
-
 unfoldable pub drops : Model → Bool → List ℕ → ℕ
 drops m continuation text = sum (map (dropsOf m) (parts m continuation text))
-
--- Rule 3.5: the cells that a part needs before any merge.
-unfoldable pub startsOf : Model → Item Stretch → ℕ
-startsOf m (token id) = 1
-startsOf m (plain s) = length (joinMap (startingIds (vocabularyOf m)) (join (stretchUnits m s)))
 
 unfoldable pub startingCount : Model → Bool → List ℕ → ℕ
 startingCount m continuation text = sum (map (startsOf m) (parts m continuation text))
@@ -67,10 +43,6 @@ sectionOutputs m text (plain section) =
 unfoldable pub encodeOutputs : Model → RawPath → List ℕ → List (List ℕ)
 encodeOutputs m (Present prepend) text = []
 encodeOutputs m Absent text = joinMap (sectionOutputs m text) (sections (m .first) text)
-
--- A count as an answer holds it: its fields end at 2^64 - 1 (rule 3.6).
-abbrev pub held : ℕ → ℕ
-held count = min count 18446744073709551615
 
 -- out is the result buffer's length, room that of the shorter scratch buffer.
 unfoldable pub encodeNumber : Model → Bool → List ℕ → ℕ → ℕ → ℕ

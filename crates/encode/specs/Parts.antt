@@ -1,8 +1,7 @@
 -- What a text is encoded as: tokens, and stretches of bytes that are cut into units.
 use Prim.Native.Nat.{ℕ}
-use mathlib.Core.Bool.{Bool, true, false, not, cond, _&&_}
-use mathlib.Core.List.{List, [], _∷_}
-use Rattle.utf8.specs.Lists.{isEmpty}
+use mathlib.Core.Bool.{Bool, true, false, not, _&&_}
+use mathlib.Core.List.{List}
 use Rattle.model.specs.Model.{Model}
 use Rattle.model.specs.Mark.{startsWithMark}
 use Rattle.normalise.specs.Steps.{stepped}
@@ -12,14 +11,9 @@ use Rattle.units.specs.declared.RawPrepend.{RawPrepend}
 use Rattle.units.specs.declared.RawPrepend.the-variants.{Never, Unguarded, GuardedAlways, GuardedFirst}
 use Rattle.units.specs.declared.RawPath.{RawPath}
 use Rattle.units.specs.declared.RawPath.the-variants.{Absent, Present}
-use Rattle.sections.specs.Sections.{Item, plain, takenApart, Section, bytesOf, sections}
+use Rattle.sections.specs.Sections.{Item, takenApart, Section, bytesOf, sections}
 use Rattle.sections.specs.SecondList.{NormalPart, normalParts}
-
--- A stretch of bytes: on the raw path a section of the text, off it a normalized part.
-pub record Stretch : Type 0 where
-  pub bytes : List ℕ
-  pub virtual : Bool
-  pub raw : Bool
+use Rattle.stretches.specs.Stretches.{Stretch, stretch}
 
 -- Rule 7.6: the path puts a virtual mark in front of the section; opening says that no token was taken before it.
 unfoldable pub prependsMark : RawPrepend → Bool → List ℕ → Bool
@@ -31,10 +25,6 @@ prependsMark GuardedFirst opening bytes = opening && not (startsWithMark true by
 -- The same for a text that may be a continuation: its opening section gets none.
 unfoldable pub virtualMark : RawPrepend → Bool → Bool → List ℕ → Bool
 virtualMark prepend continuation opening bytes = not (continuation && opening) && prependsMark prepend opening bytes
-
--- Nothing stands for no bytes.
-unfoldable pub stretch : List ℕ → Bool → Bool → List (Item Stretch)
-stretch bytes virtual raw = cond (isEmpty bytes) [] (plain (record { bytes = bytes; virtual = virtual; raw = raw }) ∷ [])
 
 -- A section on the raw path.
 unfoldable pub rawStretch : RawPrepend → Bool → List ℕ → Section → List (Item Stretch)

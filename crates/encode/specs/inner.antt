@@ -1,4 +1,2 @@
 -- What only the inner functions' contracts need.
-pub mod Writers
-pub mod Tables
 pub mod Passes

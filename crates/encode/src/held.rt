@@ -1,7 +1,7 @@
 // Counts as an answer holds them.
 ghost use mathlib.Core.Path.{_≡_};
 ghost use Prim.Native.Nat.{_+_};
-ghost use Rattle.encode.specs.Encode.{held};
+ghost use Rattle.stretches.specs.Stretches.{held};
 
 const LARGEST: usize = 18446744073709551615;
 

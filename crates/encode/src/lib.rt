@@ -1,14 +1,10 @@
 // Text to ids. Defined in specs/Encode.antt, over the parts of a text in specs/Parts.antt.
-mod each;
 mod held;
 mod marks;
 mod normal;
 mod parts;
 mod raw;
-mod repeats;
 mod section;
-mod stretch;
-mod unit;
 
 use model::Answer;
 use model::Metaspace;

@@ -19,7 +19,7 @@ use sections::walk::next_item;
 use sections::walk::sections_start;
 ghost use mathlib.Core.Path.{_≡_};
 ghost use mathlib.Core.Bool.{false};
-ghost use Prim.Native.Nat.{_≤_, min};
+ghost use Prim.Native.Nat.{min};
 ghost use lib.ListN.{length, take};
 ghost use Rattle.utf8.specs.Lists.{joinMap};
 ghost use Rattle.model.specs.Answers.{Outcome};
@@ -27,11 +27,11 @@ ghost use Rattle.model.specs.Check.{badToken};
 ghost use Rattle.model.specs.Model.{contents, tokenList};
 ghost use Rattle.merge.specs.inner.Turns.{Merged};
 ghost use Rattle.normalise.specs.Normalise.{outgrows};
-ghost use Rattle.prepare.specs.Layout.{indexLength};
 ghost use Rattle.sections.specs.Sections.{takenApart, sections};
 ghost use Rattle.sections.specs.Beginnings.{beginnings};
-ghost use Rattle.encode.specs.inner.Tables.{ownIn};
-ghost use Rattle.encode.specs.inner.Passes.{partsSymbols, partsWriter, counted, itemOutputs, Normal, stretchesIn, outputsIn, sectionStretches, sectionOutputs, normalOutcome};
+ghost use Rattle.stretches.specs.inner.Tables.{ownIn};
+ghost use Rattle.stretches.specs.inner.Parts.{partsSymbols, partsWriter};
+ghost use Rattle.encode.specs.inner.Passes.{counted, itemOutputs, Normal, stretchesIn, outputsIn, sectionStretches, sectionOutputs, normalOutcome};
 
 // The starting ids of a section and one for each token in it, counted up to `cells`, and its drops.
 pub(crate) fn count_normal_section(
@@ -56,7 +56,6 @@ pub(crate) fn count_normal_section(
     a: &mut [u8],
     b: &mut [u8],
 ) -> Counted
-    requires { ⌜ indexLength ≤ length (now index) ⌝ }
     requires { ⌜ now «second_begins» ≡ beginnings (contents (tokenList (now «second_bytes») (now «second_offsets») (now «second_ids») (now «second_lstrip») (now «second_rstrip»))) (length (now «second_begins»)) ⌝ }
     requires { ⌜ badToken (contents (tokenList (now «second_bytes») (now «second_offsets») (now «second_ids») (now «second_lstrip») (now «second_rstrip»))) ≡ false ⌝ }
     ensures { λ r. ⌜ r ≡ counted (outgrows (outputsIn (record { second = tokenList (now («second_bytes» .entry)) (now («second_offsets» .entry)) (now («second_ids» .entry)) (now («second_lstrip» .entry)) (now («second_rstrip» .entry)); stepBytes = now («step_bytes» .entry); steps = take «step_count» steps; metaspace = metaspace }) opening (now (section .entry))) (min (length (now (a .entry))) (length (now (b .entry))))) (partsSymbols (ownIn (now (index .entry)) (now («piece_bytes» .entry)) (now («piece_offsets» .entry)) (now (lookup .entry))) (now (fallback .entry)) (stretchesIn (record { second = tokenList (now («second_bytes» .entry)) (now («second_offsets» .entry)) (now («second_ids» .entry)) (now («second_lstrip» .entry)) (now («second_rstrip» .entry)); stepBytes = now («step_bytes» .entry); steps = take «step_count» steps; metaspace = metaspace }) opening (now (section .entry))) cells) ⌝ }
@@ -152,7 +151,6 @@ pub(crate) fn encode_normal_section(
     b: &mut [u8],
     out: &mut [u32],
 ) -> usize
-    requires { ⌜ indexLength ≤ length (now index) ⌝ }
     requires { ⌜ now «second_begins» ≡ beginnings (contents (tokenList (now «second_bytes») (now «second_offsets») (now «second_ids») (now «second_lstrip») (now «second_rstrip»))) (length (now «second_begins»)) ⌝ }
     requires { ⌜ badToken (contents (tokenList (now «second_bytes») (now «second_offsets») (now «second_ids») (now «second_lstrip») (now «second_rstrip»))) ≡ false ⌝ }
     requires { ⌜ outgrows (outputsIn (record { second = tokenList (now «second_bytes») (now «second_offsets») (now «second_ids») (now «second_lstrip») (now «second_rstrip»); stepBytes = now «step_bytes»; steps = take «step_count» steps; metaspace = metaspace }) opening (now section)) (min (length (now a)) (length (now b))) ≡ false ⌝ }
@@ -264,7 +262,6 @@ pub(crate) fn count_normal(
     a: &mut [u8],
     b: &mut [u8],
 ) -> Counted
-    requires { ⌜ indexLength ≤ length (now index) ⌝ }
     requires { ⌜ now «first_begins» ≡ beginnings (contents (tokenList (now «first_bytes») (now «first_offsets») (now «first_ids») (now «first_lstrip») (now «first_rstrip»))) (length (now «first_begins»)) ⌝ }
     requires { ⌜ badToken (contents (tokenList (now «first_bytes») (now «first_offsets») (now «first_ids») (now «first_lstrip») (now «first_rstrip»))) ≡ false ⌝ }
     requires { ⌜ now «second_begins» ≡ beginnings (contents (tokenList (now «second_bytes») (now «second_offsets») (now «second_ids») (now «second_lstrip») (now «second_rstrip»))) (length (now «second_begins»)) ⌝ }
@@ -375,7 +372,6 @@ pub(crate) fn write_normal(
     b: &mut [u8],
     out: &mut [u32],
 ) -> usize
-    requires { ⌜ indexLength ≤ length (now index) ⌝ }
     requires { ⌜ now «first_begins» ≡ beginnings (contents (tokenList (now «first_bytes») (now «first_offsets») (now «first_ids») (now «first_lstrip») (now «first_rstrip»))) (length (now «first_begins»)) ⌝ }
     requires { ⌜ badToken (contents (tokenList (now «first_bytes») (now «first_offsets») (now «first_ids») (now «first_lstrip») (now «first_rstrip»))) ≡ false ⌝ }
     requires { ⌜ now «second_begins» ≡ beginnings (contents (tokenList (now «second_bytes») (now «second_offsets») (now «second_ids») (now «second_lstrip») (now «second_rstrip»))) (length (now «second_begins»)) ⌝ }
@@ -478,7 +474,6 @@ pub(crate) fn encode_normal(
     b: &mut [u8],
     out: &mut [u32],
 ) -> Answer
-    requires { ⌜ indexLength ≤ length (now index) ⌝ }
     requires { ⌜ now «first_begins» ≡ beginnings (contents (tokenList (now «first_bytes») (now «first_offsets») (now «first_ids») (now «first_lstrip») (now «first_rstrip»))) (length (now «first_begins»)) ⌝ }
     requires { ⌜ badToken (contents (tokenList (now «first_bytes») (now «first_offsets») (now «first_ids») (now «first_lstrip») (now «first_rstrip»))) ≡ false ⌝ }
     requires { ⌜ now «second_begins» ≡ beginnings (contents (tokenList (now «second_bytes») (now «second_offsets») (now «second_ids») (now «second_lstrip») (now «second_rstrip»))) (length (now «second_begins»)) ⌝ }

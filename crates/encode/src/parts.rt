@@ -2,8 +2,6 @@
 use crate::Counted;
 use crate::held::add_held;
 use crate::section::put_id;
-use crate::stretch::count_stretch;
-use crate::stretch::encode_stretch;
 use merge::Symbols;
 use model::Metaspace;
 use model::tables::part;
@@ -12,6 +10,8 @@ use normalise::metaspace::apply_metaspace;
 use sections::Next;
 use sections::walk::next_item;
 use sections::walk::parts_start;
+use stretches::stretch::count_stretch;
+use stretches::stretch::encode_stretch;
 ghost use mathlib.Core.Path.{_≡_};
 ghost use mathlib.Core.Bool.{false};
 ghost use Prim.Native.Nat.{_≤_};
@@ -22,13 +22,13 @@ ghost use Rattle.model.specs.Model.{contents, tokenList};
 ghost use Rattle.merge.specs.inner.Turns.{Merged};
 ghost use Rattle.normalise.specs.Normalise.{outgrows};
 ghost use Rattle.normalise.specs.Spaces.{metaspaceOutput, metaspaced};
-ghost use Rattle.prepare.specs.Layout.{indexLength};
 ghost use Rattle.sections.specs.Sections.{takenApart};
 ghost use Rattle.sections.specs.SecondList.{normalParts};
 ghost use Rattle.sections.specs.Beginnings.{beginnings};
-ghost use Rattle.encode.specs.Parts.{stretch};
-ghost use Rattle.encode.specs.inner.Tables.{ownIn};
-ghost use Rattle.encode.specs.inner.Passes.{partsSymbols, partsWriter, counted, unlessLong, partStretch, itemOutputs, partOutputs};
+ghost use Rattle.stretches.specs.Stretches.{stretch};
+ghost use Rattle.stretches.specs.inner.Tables.{ownIn};
+ghost use Rattle.stretches.specs.inner.Parts.{partsSymbols, partsWriter};
+ghost use Rattle.encode.specs.inner.Passes.{counted, unlessLong, partStretch, itemOutputs, partOutputs};
 
 fn counts(symbols: Symbols) -> Counted
     ensures { λ r. ⌜ r ≡ counted false symbols ⌝ }
@@ -53,7 +53,6 @@ pub(crate) fn count_part(
     cells: usize,
     scratch: &mut [u8],
 ) -> Counted
-    requires { ⌜ indexLength ≤ length (now index) ⌝ }
     requires { ⌜ room ≤ length (now scratch) ⌝ }
     ensures { λ r. ⌜ r ≡ counted (outgrows (metaspaceOutput metaspace first (now (bytes .entry))) room) (partsSymbols (ownIn (now (index .entry)) (now («piece_bytes» .entry)) (now («piece_offsets» .entry)) (now (lookup .entry))) (now (fallback .entry)) (stretch (metaspaced metaspace first (now (bytes .entry))) false false) cells) ⌝ }
 {
@@ -107,7 +106,6 @@ pub(crate) fn encode_part(
     scratch: &mut [u8],
     out: &mut [u32],
 ) -> usize
-    requires { ⌜ indexLength ≤ length (now index) ⌝ }
     requires { ⌜ room ≤ length (now scratch) ⌝ }
     ensures { λ n. ⌜ _≡_ {A = Merged} (record { count = n; ids = now (out .exit) }) (unlessLong (outgrows (metaspaceOutput metaspace first (now (bytes .entry))) room) (partsWriter (record { adjacency = now (adjacency .entry); index = now (index .entry); pieceBytes = now («piece_bytes» .entry); pieceOffsets = now («piece_offsets» .entry); lookup = now (lookup .entry); fallback = now (fallback .entry); left = now (left .entry); right = now (right .entry); result = now (result .entry); rank = now (rank .entry) }) (stretch (metaspaced metaspace first (now (bytes .entry))) false false) (now (out .entry))) (now (out .entry))) ⌝ }
 {
@@ -172,7 +170,6 @@ pub(crate) fn count_parts(
     cells: usize,
     scratch: &mut [u8],
 ) -> Counted
-    requires { ⌜ indexLength ≤ length (now index) ⌝ }
     requires { ⌜ now begins ≡ beginnings (contents (tokenList (now bytes) (now offsets) (now ids) (now lstrip) (now rstrip))) (length (now begins)) ⌝ }
     requires { ⌜ badToken (contents (tokenList (now bytes) (now offsets) (now ids) (now lstrip) (now rstrip))) ≡ false ⌝ }
     requires { ⌜ room ≤ length (now scratch) ⌝ }
@@ -265,7 +262,6 @@ pub(crate) fn encode_parts(
     scratch: &mut [u8],
     out: &mut [u32],
 ) -> usize
-    requires { ⌜ indexLength ≤ length (now index) ⌝ }
     requires { ⌜ now begins ≡ beginnings (contents (tokenList (now bytes) (now offsets) (now ids) (now lstrip) (now rstrip))) (length (now begins)) ⌝ }
     requires { ⌜ badToken (contents (tokenList (now bytes) (now offsets) (now ids) (now lstrip) (now rstrip))) ≡ false ⌝ }
     requires { ⌜ room ≤ length (now scratch) ⌝ }

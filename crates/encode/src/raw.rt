@@ -14,18 +14,17 @@ use sections::walk::sections_start;
 use units::RawPrepend;
 ghost use mathlib.Core.Path.{_≡_};
 ghost use mathlib.Core.Bool.{false};
-ghost use Prim.Native.Nat.{_≤_};
 ghost use lib.ListN.{length};
 ghost use Rattle.model.specs.Answers.{Outcome};
 ghost use Rattle.model.specs.Check.{badToken};
 ghost use Rattle.model.specs.Model.{contents, tokenList};
 ghost use Rattle.merge.specs.inner.Turns.{Merged};
-ghost use Rattle.prepare.specs.Layout.{indexLength};
 ghost use Rattle.sections.specs.Sections.{takenApart, sections};
 ghost use Rattle.sections.specs.Beginnings.{beginnings};
+ghost use Rattle.stretches.specs.inner.Tables.{ownIn};
+ghost use Rattle.stretches.specs.inner.Parts.{partsSymbols, partsWriter};
 ghost use Rattle.encode.specs.Parts.{rawStretch};
-ghost use Rattle.encode.specs.inner.Tables.{ownIn};
-ghost use Rattle.encode.specs.inner.Passes.{partsSymbols, partsWriter, partsOutcome};
+ghost use Rattle.encode.specs.inner.Passes.{partsOutcome};
 
 // The starting ids of all sections and one for each token, counted up to `room`, and all drops.
 pub fn count_raw(
@@ -45,7 +44,6 @@ pub fn count_raw(
     text: &[u8],
     room: usize,
 ) -> Symbols
-    requires { ⌜ indexLength ≤ length (now index) ⌝ }
     requires { ⌜ now begins ≡ beginnings (contents (tokenList (now bytes) (now offsets) (now ids) (now lstrip) (now rstrip))) (length (now begins)) ⌝ }
     requires { ⌜ badToken (contents (tokenList (now bytes) (now offsets) (now ids) (now lstrip) (now rstrip))) ≡ false ⌝ }
     ensures { λ r. ⌜ r ≡ partsSymbols (ownIn (now (index .entry)) (now («piece_bytes» .entry)) (now («piece_offsets» .entry)) (now (lookup .entry))) (now (fallback .entry)) (takenApart (rawStretch prepend continuation (now (text .entry))) (sections (tokenList (now (bytes .entry)) (now (offsets .entry)) (now (ids .entry)) (now (lstrip .entry)) (now (rstrip .entry))) (now (text .entry)))) room ⌝ }
@@ -129,7 +127,6 @@ pub fn write_raw(
     text: &[u8],
     out: &mut [u32],
 ) -> usize
-    requires { ⌜ indexLength ≤ length (now index) ⌝ }
     requires { ⌜ now begins ≡ beginnings (contents (tokenList (now bytes) (now offsets) (now ids) (now lstrip) (now rstrip))) (length (now begins)) ⌝ }
     requires { ⌜ badToken (contents (tokenList (now bytes) (now offsets) (now ids) (now lstrip) (now rstrip))) ≡ false ⌝ }
     ensures { λ n. ⌜ _≡_ {A = Merged} (record { count = n; ids = now (out .exit) }) (partsWriter (record { adjacency = now (adjacency .entry); index = now (index .entry); pieceBytes = now («piece_bytes» .entry); pieceOffsets = now («piece_offsets» .entry); lookup = now (lookup .entry); fallback = now (fallback .entry); left = now (left .entry); right = now (right .entry); result = now (result .entry); rank = now (rank .entry) }) (takenApart (rawStretch prepend continuation (now (text .entry))) (sections (tokenList (now (bytes .entry)) (now (offsets .entry)) (now (ids .entry)) (now (lstrip .entry)) (now (rstrip .entry))) (now (text .entry)))) (now (out .entry))) ⌝ }
@@ -210,7 +207,6 @@ pub fn encode_raw(
     text: &[u8],
     out: &mut [u32],
 ) -> Answer
-    requires { ⌜ indexLength ≤ length (now index) ⌝ }
     requires { ⌜ now begins ≡ beginnings (contents (tokenList (now bytes) (now offsets) (now ids) (now lstrip) (now rstrip))) (length (now begins)) ⌝ }
     requires { ⌜ badToken (contents (tokenList (now bytes) (now offsets) (now ids) (now lstrip) (now rstrip))) ≡ false ⌝ }
     ensures { λ r. ⌜ _≡_ {A = Outcome} (record { answer = r; out = now (out .exit) }) (partsOutcome (record { adjacency = now (adjacency .entry); index = now (index .entry); pieceBytes = now («piece_bytes» .entry); pieceOffsets = now («piece_offsets» .entry); lookup = now (lookup .entry); fallback = now (fallback .entry); left = now (left .entry); right = now (right .entry); result = now (result .entry); rank = now (rank .entry) }) (takenApart (rawStretch prepend continuation (now (text .entry))) (sections (tokenList (now (bytes .entry)) (now (offsets .entry)) (now (ids .entry)) (now (lstrip .entry)) (now (rstrip .entry))) (now (text .entry)))) (now (out .entry))) ⌝ }

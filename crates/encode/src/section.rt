@@ -1,18 +1,16 @@
 // One section on the raw path.
 use crate::marks::virtual_mark;
-use crate::stretch::count_stretch;
-use crate::stretch::encode_stretch;
 use merge::Symbols;
+use stretches::stretch::count_stretch;
+use stretches::stretch::encode_stretch;
 use units::RawPrepend;
 ghost use mathlib.Core.Path.{_≡_};
 ghost use mathlib.Core.Bool.{true};
-ghost use Prim.Native.Nat.{_≤_};
-ghost use lib.ListN.{length};
 ghost use Rattle.merge.specs.inner.Turns.{Merged};
-ghost use Rattle.prepare.specs.Layout.{indexLength};
-ghost use Rattle.encode.specs.Parts.{virtualMark, stretch};
-ghost use Rattle.encode.specs.inner.Tables.{ownIn};
-ghost use Rattle.encode.specs.inner.Passes.{partsSymbols, idWriter, partsWriter};
+ghost use Rattle.stretches.specs.Stretches.{stretch};
+ghost use Rattle.stretches.specs.inner.Tables.{ownIn};
+ghost use Rattle.stretches.specs.inner.Parts.{partsSymbols, idWriter, partsWriter};
+ghost use Rattle.encode.specs.Parts.{virtualMark};
 
 // The starting ids of a section, counted up to `room`, and its drops.
 pub fn count_section(
@@ -27,7 +25,6 @@ pub fn count_section(
     section: &[u8],
     room: usize,
 ) -> Symbols
-    requires { ⌜ indexLength ≤ length (now index) ⌝ }
     ensures { λ r. ⌜ r ≡ partsSymbols (ownIn (now (index .entry)) (now («piece_bytes» .entry)) (now («piece_offsets» .entry)) (now (lookup .entry))) (now (fallback .entry)) (stretch (now (section .entry)) (virtualMark prepend continuation opening (now (section .entry))) true) room ⌝ }
 {
     let mark = virtual_mark(prepend, continuation, opening, section);
@@ -62,7 +59,6 @@ pub fn encode_section(
     section: &[u8],
     out: &mut [u32],
 ) -> usize
-    requires { ⌜ indexLength ≤ length (now index) ⌝ }
     ensures { λ n. ⌜ _≡_ {A = Merged} (record { count = n; ids = now (out .exit) }) (partsWriter (record { adjacency = now (adjacency .entry); index = now (index .entry); pieceBytes = now («piece_bytes» .entry); pieceOffsets = now («piece_offsets» .entry); lookup = now (lookup .entry); fallback = now (fallback .entry); left = now (left .entry); right = now (right .entry); result = now (result .entry); rank = now (rank .entry) }) (stretch (now (section .entry)) (virtualMark prepend continuation opening (now (section .entry))) true) (now (out .entry))) ⌝ }
 {
     let mark = virtual_mark(prepend, continuation, opening, section);

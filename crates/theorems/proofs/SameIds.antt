@@ -26,8 +26,9 @@ use Rattle.merge.specs.Start.{vocabularyOf, startingIds, isDropped, unitChars, 
 use Rattle.merge.specs.Merge.{merged}
 use Rattle.merge.proofs.PieceLaws.{chars-merge, chars-spell}
 use Rattle.sections.specs.Sections.{Item, token, plain}
-use Rattle.encode.specs.Parts.{Stretch, parts}
-use Rattle.encode.specs.Encode.{stretchUnits, unitIds, idsOf, encodedIds, dropsOf, drops}
+use Rattle.stretches.specs.Stretches.{Stretch, stretchUnits, unitIds, idsOf, dropsOf}
+use Rattle.encode.specs.Parts.{parts}
+use Rattle.encode.specs.Encode.{encodedIds, drops}
 use Rattle.theorems.specs.UnitsKeepIds.{allChars, unsplitIds, markSections, sectionsOf, unitStarts, shownBytes, UnitsKeepIds, partIds, EncodedUnsplit}
 use Rattle.theorems.proofs.SpelledLaws.{strings-of, chars-of, all-chars-shown, chars-all-some}
 use Rattle.theorems.proofs.RunLaws.{run-ended}

@@ -19,7 +19,7 @@ use Rattle.model.specs.Mark.{mark, space}
 use Rattle.merge.specs.Start.{asMark, unitChars, withVirtualMark}
 use Rattle.units.proofs.ShownLaws.{shownByte, shown, prefix, shown-append}
 use Rattle.units.proofs.UnitLaws.{spelledUnits}
-use Rattle.encode.specs.Parts.{Stretch}
+use Rattle.stretches.specs.Stretches.{Stretch}
 use Rattle.theorems.specs.UnitsKeepIds.{allChars}
 
 -- ---- a character as it is spelled

@@ -27,6 +27,7 @@ use Rattle.sections.specs.Beginnings
 use Rattle.prepare.specs.Numbers
 use Rattle.prepare.specs.Layout
 use Rattle.prepare.specs.Prepare
+use Rattle.stretches.specs.Stretches
 use Rattle.encode.specs.Parts
 use Rattle.encode.specs.Encode
 use Rattle.fragments.specs.Safe
@@ -124,8 +125,9 @@ unfolding Chars.charForms Chars.charWidth Chars.chars Chars.isChar Chars.valid C
     Numbers.kindNumber Numbers.rawPathNumber
     Layout.pieceWords Layout.tokenWords Layout.indexRow
     Prepare.derivedAdjacency Prepare.derivedIndex Prepare.prepareNumber Prepare.prepareOutcome
-    Parts.prependsMark Parts.virtualMark Parts.stretch Parts.rawStretch Parts.normalStretch Parts.normalPartsOf Parts.stretchesOf Parts.parts
-    Encode.stretchUnits Encode.unitIds Encode.idsOf Encode.encodedIds Encode.dropsOf Encode.drops Encode.startsOf Encode.startingCount Encode.metaspaceOutputOf Encode.sectionOutputs Encode.encodeOutputs Encode.encodeNumber Encode.encodeOutcome
+    Stretches.stretch Stretches.stretchUnits Stretches.unitIds Stretches.idsOf Stretches.dropsOf Stretches.startsOf
+    Parts.prependsMark Parts.virtualMark Parts.rawStretch Parts.normalStretch Parts.normalPartsOf Parts.stretchesOf Parts.parts
+    Encode.encodedIds Encode.drops Encode.startingCount Encode.metaspaceOutputOf Encode.sectionOutputs Encode.encodeOutputs Encode.encodeNumber Encode.encodeOutcome
     Safe.isUnguarded Safe.blocks Safe.blockStart Safe.blockEnd Safe.block Safe.blockedBy Safe.isBlocked Safe.isSafe
     Fragments.cuts Fragments.ranges Fragments.rangeNumbers Fragments.fragmentsNumber Fragments.fragmentsOutcome
     Decode.hasPiece Decode.joinedBytes Decode.skips Decode.replacement Decode.straysReplaced Decode.marksSpaced Decode.prependsMark Decode.isPrepend Decode.prependsSpace Decode.leadingSpaceGone Decode.decodedBytes Decode.decodeNumber Decode.decodeOutcome

@@ -15,8 +15,7 @@ use Rattle.units.specs.Units.{holdsPair, cutBy}
 use Rattle.units.specs.declared.WordSplit.{WordSplit}
 use Rattle.units.specs.declared.WordSplit.the-variants.{SpaceRuns, EveryMark, None}
 use Rattle.merge.specs.Start.{vocabularyOf, isDropped, unitChars, withVirtualMark}
-use Rattle.encode.specs.Parts.{Stretch}
-use Rattle.encode.specs.Encode.{unitIds}
+use Rattle.stretches.specs.Stretches.{Stretch, unitIds}
 use Rattle.theorems.specs.Cases.{agrees}
 use Rattle.theorems.specs.Toys.{T, U, noTokens, noSteps, toyFallback}
 use Rattle.theorems.specs.UnitsKeepIds.{allChars, unsplitIds, markSections, sectionsOf, shownBytes}

@@ -16,8 +16,9 @@ use Rattle.units.specs.declared.WordSplit.the-variants.{SpaceRuns, EveryMark, N
 use Rattle.merge.specs.Start.{vocabularyOf, startingIds, isDropped, unitChars}
 use Rattle.merge.specs.Merge.{Candidate, nextMerge, mergedAt, merged}
 use Rattle.sections.specs.Sections.{Item, token, plain}
-use Rattle.encode.specs.Parts.{Stretch, parts}
-use Rattle.encode.specs.Encode.{stretchUnits, drops, encodedIds}
+use Rattle.stretches.specs.Stretches.{Stretch, stretchUnits}
+use Rattle.encode.specs.Parts.{parts}
+use Rattle.encode.specs.Encode.{drops, encodedIds}
 
 -- The characters of a stretch, with its prefix in front, as they are to be spelled. It knows nothing of units.
 unfoldable pub allChars : Stretch → List (List ℕ)

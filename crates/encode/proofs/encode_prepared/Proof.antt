@@ -96,7 +96,7 @@ encode-raw-requires : tie.Need-encode-raw-requires
 encode-raw-requires c κs =
     let k = entered (validAt (c .before .before .before .before .before)) in
     let m = lent (start k) .model in
-    (long-index k, (first-begins m (start k .pre .1 .1), accepted m (start k .pre .0) .firstTexts))
+    (first-begins m (start k .pre .1 .1), accepted m (start k .pre .0) .firstTexts)
 
 clear-requires : tie.Need-clear-requires
 clear-requires c κs = search needs
@@ -143,7 +143,7 @@ encode-normal-requires c κs =
     let k = entered (validAt (c .before .before .before .before .before .before .before .before)) in
     let m = lent (start k) .model in
     let ok = accepted m (start k .pre .0) in
-    (long-index k, (first-begins m (start k .pre .1 .1), (ok .firstTexts, (second-begins m (start k .pre .1 .1), ok .secondTexts))))
+    (first-begins m (start k .pre .1 .1), (ok .firstTexts, (second-begins m (start k .pre .1 .1), ok .secondTexts)))
 
 clear-requires-3 : tie.Need-clear-requires-3
 clear-requires-3 c κs = search needs

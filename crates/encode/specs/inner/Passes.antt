@@ -1,12 +1,10 @@
 -- The two passes over the parts of a text: one counts starting ids and drops, the other writes.
-use Prim.Native.Nat.{ℕ, _+_, _-_, min}
+use Prim.Native.Nat.{ℕ, _+_, _-_}
 use mathlib.Core.Bool.{Bool, true, false, cond}
-use mathlib.Core.List.{List, [], _∷_, _++_, map}
-use mathlib.Core.Option.{Option}
+use mathlib.Core.List.{List, [], _++_}
 use lib.Dec.{ltb}
 use lib.ListN.{length, take}
-use Rattle.utf8.specs.Lists.{joinMap, sum, lastOr}
-use Rattle.utf8.specs.Lists as lists
+use Rattle.utf8.specs.Lists.{joinMap, lastOr}
 use Rattle.model.specs.Model.{TokenList}
 use Rattle.model.specs.Answers.{zeros, done, refused, Outcome}
 use Rattle.model.specs.declared.Metaspace.{Metaspace}
@@ -14,44 +12,15 @@ use Rattle.model.specs.declared.Step.{Step}
 use Rattle.normalise.specs.Steps.{outputsOf}
 use Rattle.normalise.specs.Spaces.{metaspaceOutput, metaspaced}
 use Rattle.normalise.specs.Normalise.{outgrows}
-use Rattle.merge.specs.Start.{startingIdsBy, isDroppedBy}
-use Rattle.merge.specs.inner.Laid.{laid, markedChars}
 use Rattle.merge.specs.inner.Turns.{Merged}
 use Rattle.merge.specs.declared.Symbols.{Symbols}
 use Rattle.sections.specs.Sections.{Item, token, plain, takenApart, Section, bytesOf, sections}
+use Rattle.sections.specs.SecondList.{NormalPart, normalParts}
+use Rattle.stretches.specs.Stretches.{Stretch, stretch}
+use Rattle.stretches.specs.inner.Tables.{Tables, ownIn}
+use Rattle.stretches.specs.inner.Parts.{partsSymbols, partsWriter}
 use Rattle.encode.specs.declared.Counted.{Counted}
 use Rattle.encode.specs.declared.Counted.the-variants.{Counts, TooLong}
-use Rattle.sections.specs.SecondList.{NormalPart, normalParts}
-use Rattle.encode.specs.Parts.{Stretch, stretch}
-use Rattle.encode.specs.Encode.{held}
-use Rattle.encode.specs.inner.Writers.{Writer, inTurn}
-use Rattle.encode.specs.inner.Tables.{Tables, ownIn, stretchIn}
-
--- The starting ids of a part, and its drops; a token is one id.
-unfoldable pub partStarts : (List ℕ → Option ℕ) → List ℕ → Item Stretch → ℕ
-partStarts own fallback (token id) = 1
-partStarts own fallback (plain s) = length (joinMap (startingIdsBy own fallback) (markedChars (s .virtual) (s .raw) (s .bytes)))
-
-unfoldable pub partDrops : (List ℕ → Option ℕ) → List ℕ → Item Stretch → ℕ
-partDrops own fallback (token id) = 0
-partDrops own fallback (plain s) = lists.count (isDroppedBy own fallback) (markedChars (s .virtual) (s .raw) (s .bytes))
-
--- The first pass: how many starting ids there are, counted up to a room, and how many drops, as far as an answer can tell.
-unfoldable pub partsSymbols : (List ℕ → Option ℕ) → List ℕ → List (Item Stretch) → ℕ → Symbols
-partsSymbols own fallback parts room =
-    record { count = min (sum (map (partStarts own fallback) parts)) room; drops = held (sum (map (partDrops own fallback) parts)) }
-
--- One id, where there is a cell for it.
-unfoldable pub idWriter : ℕ → Writer
-idWriter id out = record { count = min 1 (length out); ids = laid (id ∷ []) out }
-
-unfoldable pub partWriter : Tables → Item Stretch → Writer
-partWriter t (token id) = idWriter id
-partWriter t (plain s) = stretchIn t (s .virtual) (s .raw) (s .bytes)
-
--- The second pass.
-unfoldable pub partsWriter : Tables → List (Item Stretch) → Writer
-partsWriter t parts = inTurn (map (partWriter t) parts)
 
 -- What encoding these parts leaves: 12 where starting ids and tokens outnumber the cells, and else what the second pass wrote, then zeros.
 unfoldable pub partsOutcome : Tables → List (Item Stretch) → List ℕ → Outcome

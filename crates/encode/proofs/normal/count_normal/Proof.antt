@@ -12,8 +12,9 @@ use Rattle.normalise.specs.Normalise.{outgrows}
 use Rattle.sections.specs.Sections.{plain, Section, sections}
 use Rattle.sections.proofs.StepLaws.{stepsLeft}
 use Rattle.sections.proofs.SectionLaws.{sectionsLeft, sections-start}
-use Rattle.encode.specs.inner.Tables.{ownIn}
-use Rattle.encode.specs.inner.Passes.{partsSymbols, counted, Normal, sectionStretches, sectionOutputs}
+use Rattle.stretches.specs.inner.Tables.{ownIn}
+use Rattle.stretches.specs.inner.Parts.{partsSymbols}
+use Rattle.encode.specs.inner.Passes.{counted, Normal, sectionStretches, sectionOutputs}
 use Rattle.encode.proofs.ItemLaws.{Counting, counting-start, counting-token, counting-full, counting-ended, counting-long, counting-next, counting-fits}
 use Rattle.encode.proofs.WalkLaws.{section-here, token-here, none-here, plain-fewer, token-fewer}
 use Rattle.encode.proofs.SteppedLaws.{text-found}
@@ -83,7 +84,7 @@ returns c =
     let f = c .before .before in
     let a = f .before in
     let s = start (a .before) in
-    counting-ended (a .loop .inv .0) (none-here (sectionStretches (normalOf s) (s .args .text .now)) (tokensOf s) (s .args .text .now) (s .args .first-begins .now) (s .pre .1 .0) (s .pre .1 .1 .0) (a .loop .cursor) (f .next-item .ensures) (c .enum-told .given .1))
+    counting-ended (a .loop .inv .0) (none-here (sectionStretches (normalOf s) (s .args .text .now)) (tokensOf s) (s .args .text .now) (s .args .first-begins .now) (s .pre .0) (s .pre .1 .0) (a .loop .cursor) (f .next-item .ensures) (c .enum-told .given .1))
 
 enum-known-next : tie.Need-enum-known-next Inv-loop μ-loop
 enum-known-next c = search needs
@@ -106,7 +107,7 @@ loop-again c =
     let f = n .before .before in
     let a = f .before in
     let s = start (a .before) in
-    (counting-token (a .loop .inv .0) _ _ (token-here (sectionStretches (normalOf s) (s .args .text .now)) (tokensOf s) (s .args .text .now) (s .args .first-begins .now) (s .pre .1 .0) (s .pre .1 .1 .0) (a .loop .cursor) (f .next-item .ensures) (n .next .given .1)) (c .if1 .taken), a .loop .inv .1, a .loop .inv .2)
+    (counting-token (a .loop .inv .0) _ _ (token-here (sectionStretches (normalOf s) (s .args .text .now)) (tokensOf s) (s .args .text .now) (s .args .first-begins .now) (s .pre .0) (s .pre .1 .0) (a .loop .cursor) (f .next-item .ensures) (n .next .given .1)) (c .if1 .taken), a .loop .inv .1, a .loop .inv .2)
 
 loop-less-2 : tie.Need-loop-less-2 Inv-loop μ-loop
 loop-less-2 c =
@@ -121,7 +122,7 @@ loop-again-2 c =
     let f = n .before .before in
     let a = f .before in
     let s = start (a .before) in
-    (counting-full (a .loop .inv .0) _ _ (token-here (sectionStretches (normalOf s) (s .args .text .now)) (tokensOf s) (s .args .text .now) (s .args .first-begins .now) (s .pre .1 .0) (s .pre .1 .1 .0) (a .loop .cursor) (f .next-item .ensures) (n .next .given .1)) (c .if1 .left), a .loop .inv .1, a .loop .inv .2)
+    (counting-full (a .loop .inv .0) _ _ (token-here (sectionStretches (normalOf s) (s .args .text .now)) (tokensOf s) (s .args .text .now) (s .args .first-begins .now) (s .pre .0) (s .pre .1 .0) (a .loop .cursor) (f .next-item .ensures) (n .next .given .1)) (c .if1 .left), a .loop .inv .1, a .loop .inv .2)
 
 enum-known-start : tie.Need-enum-known-start Inv-loop μ-loop
 enum-known-start c = search needs
@@ -135,7 +136,7 @@ sub-count-normal-section c = c .before .before .before .before .before .loop .in
 count-normal-section-requires : tie.Need-count-normal-section-requires Inv-loop μ-loop
 count-normal-section-requires c κs =
     let s = start (c .before .before .before .before .before .before .before .before) in
-    (s .pre .0, s .pre .1 .1 .1)
+    s .pre .1 .1
 
 enum-told-2 : tie.Need-enum-told-2 Inv-loop μ-loop
 enum-told-2 c = search needs
@@ -161,7 +162,7 @@ nextAt : (p : tie.After-count-normal-section Inv-loop μ-loop)
     → sectionsLeft (tokensOf (startAt p)) (startAt p .args .text .now) (headAt p .loop .cursor) ≡ plain (sectionAt p) ∷ sectionsLeft (tokensOf (startAt p)) (startAt p .args .text .now) (itemAt p .start .given .0 .1 .1 .1 .0)
 nextAt p =
     let s = startAt p in
-    section-here (sectionStretches (normalOf s) (s .args .text .now)) (tokensOf s) (s .args .text .now) (s .args .first-begins .now) (s .pre .1 .0) (s .pre .1 .1 .0) (headAt p .loop .cursor) (walkAt p .next-item .ensures) (itemAt p .start .given .1)
+    section-here (sectionStretches (normalOf s) (s .args .text .now)) (tokensOf s) (s .args .text .now) (s .args .first-begins .now) (s .pre .0) (s .pre .1 .0) (headAt p .loop .cursor) (walkAt p .next-item .ensures) (itemAt p .start .given .1)
 
 foundAt : (p : tie.After-count-normal-section Inv-loop μ-loop)
     → p .count-normal-section .result

@@ -6,7 +6,7 @@ use mathlib.Core.Option.{Option}
 use borrow.Author.Needs.{needs}
 use lib.ListN.{take}
 use Rattle.model.specs.Model.{tokenList}
-use Rattle.encode.specs.inner.Tables.{ownIn}
+use Rattle.stretches.specs.inner.Tables.{ownIn}
 use Rattle.encode.specs.inner.Passes.{Normal}
 use Rattle.encode.proofs.SteppedLaws.{steps-long, stepped-given, stepped-a, stepped-b, section-uncounted, section-found}
 use Rattle.encode.proofs.normal.count_normal_section.Statement.{statement}
@@ -48,7 +48,7 @@ enum-told-2 c = search needs
 count-parts-requires : tie.Need-count-parts-requires
 count-parts-requires c κs =
     let k = c .before .before .before in
-    (start k .pre .0, (start k .pre .1 .0, (start k .pre .1 .1, omega (arith, measured k .lesser .ensures, k .before .before .before .a .given))))
+    (start k .pre .0, (start k .pre .1, omega (arith, measured k .lesser .ensures, k .before .before .before .a .given)))
 
 enum-known-n : tie.Need-enum-known-n
 enum-known-n c = search needs
@@ -59,7 +59,7 @@ part-requires c κs = search needs
 count-parts-requires-2 : tie.Need-count-parts-requires-2
 count-parts-requires-2 c κs =
     let k = c .before .before .before .before .before .before in
-    (start k .pre .0, (start k .pre .1 .0, (start k .pre .1 .1, omega (arith, measured k .lesser .ensures, k .before .b .given))))
+    (start k .pre .0, (start k .pre .1, omega (arith, measured k .lesser .ensures, k .before .b .given)))
 
 enum-known-n-2 : tie.Need-enum-known-n-2
 enum-known-n-2 c = search needs
@@ -70,7 +70,7 @@ part-requires-2 c κs = search needs
 count-parts-requires-3 : tie.Need-count-parts-requires-3
 count-parts-requires-3 c κs =
     let k = c .before .before .before .before .before .before in
-    (start k .pre .0, (start k .pre .1 .0, (start k .pre .1 .1, omega (arith, measured k .lesser .ensures, k .before .before .before .a .given))))
+    (start k .pre .0, (start k .pre .1, omega (arith, measured k .lesser .ensures, k .before .before .before .a .given)))
 
 same-length : tie.Need-same-length
 same-length c = search needs

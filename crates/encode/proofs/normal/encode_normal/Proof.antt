@@ -9,8 +9,8 @@ use Rattle.utf8.specs.Lists.{joinMap}
 use Rattle.model.specs.Model.{TokenList, tokenList}
 use Rattle.normalise.specs.Normalise.{outgrows}
 use Rattle.sections.specs.Sections.{Item, takenApart, sections}
-use Rattle.encode.specs.Parts.{Stretch}
-use Rattle.encode.specs.inner.Tables.{Tables}
+use Rattle.stretches.specs.Stretches.{Stretch}
+use Rattle.stretches.specs.inner.Tables.{Tables}
 use Rattle.encode.specs.inner.Passes.{itemOutputs, Normal, sectionStretches, sectionOutputs}
 use Rattle.encode.proofs.OutcomeLaws.{normal-long, normal-fine, normal-short, normal-written, cleared-long}
 use Rattle.encode.proofs.normal.encode_normal.Statement.{statement}
@@ -80,7 +80,7 @@ write-normal-requires c κs =
     let k = n .before .before in
     let p = countedAt k in
     let s = start p in
-    (s .pre .0, (s .pre .1 .0, (s .pre .1 .1 .0, (s .pre .1 .1 .1 .0, (s .pre .1 .1 .1 .1, ap (outgrows (joinMap (itemOutputs (sectionOutputs (normalOf s) (s .args .text .now))) (sections (tokensOf s) (s .args .text .now)))) (ap₂ min (k .before .before .before .a .given) (k .before .b .given)) ∙ normal-fine (tablesOf (start p)) (normalOf (start p)) (tokensOf (start p)) (start p .args .text .now) (roomOf (start p)) (start p .args .out .now) (p .count-normal .ensures) (n .count .given .1))))))
+    (s .pre .0, (s .pre .1 .0, (s .pre .1 .1 .0, (s .pre .1 .1 .1, ap (outgrows (joinMap (itemOutputs (sectionOutputs (normalOf s) (s .args .text .now))) (sections (tokensOf s) (s .args .text .now)))) (ap₂ min (k .before .before .before .a .given) (k .before .b .given)) ∙ normal-fine (tablesOf (start p)) (normalOf (start p)) (tokensOf (start p)) (start p .args .text .now) (roomOf (start p)) (start p .args .out .now) (p .count-normal .ensures) (n .count .given .1)))))
 
 -- The way back from what was written: to the test of the cells, and to the first pass.
 abbrev roomyAt : tie.After-write-normal → tie.Else1

@@ -6,7 +6,7 @@ use borrow.Author.Needs.{needs}
 use lib.ListN.{take}
 use Rattle.model.specs.Model.{tokenList}
 use Rattle.normalise.specs.Normalise.{outgrows}
-use Rattle.encode.specs.inner.Tables.{Tables}
+use Rattle.stretches.specs.inner.Tables.{Tables}
 use Rattle.encode.specs.inner.Passes.{Normal, outputsIn}
 use Rattle.encode.proofs.SteppedLaws.{steps-long, stepped-given, stepped-a, stepped-b, section-never, section-put, parts-short}
 use Rattle.encode.proofs.normal.encode_normal_section.Statement.{statement}
@@ -35,7 +35,7 @@ tablesOf s = record { adjacency = s .args .adjacency .now; index = s .args .inde
 
 -- No output is too long for the room that was measured.
 shortAt : (k : tie.After-slice-known5) → outgrows (outputsIn (normalOf (start k)) (start k .args .opening) (start k .args .section .now)) (measured k .lesser .result) ≡ false
-shortAt k = ap (outgrows (outputsIn (normalOf (start k)) (start k .args .opening) (start k .args .section .now))) (measured k .lesser .ensures) ∙ start k .pre .1 .1 .1
+shortAt k = ap (outgrows (outputsIn (normalOf (start k)) (start k .args .opening) (start k .args .section .now))) (measured k .lesser .ensures) ∙ start k .pre .1 .1
 
 lesser-requires : tie.Need-lesser-requires
 lesser-requires c κs = search needs
@@ -53,7 +53,7 @@ encode-parts-requires : tie.Need-encode-parts-requires
 encode-parts-requires c κs =
     let e = c .before .before in
     let k = e .before .before in
-    (start k .pre .0, (start k .pre .1 .0, (start k .pre .1 .1 .0, (omega (arith, measured k .lesser .ensures, k .before .before .before .a .given), parts-short (normalOf (start k)) (start k .args .opening) (start k .args .section .now) (measured k .lesser .result) (stepped-given (normalOf (start k)) (start k .args .section .now) (measured k .lesser .result) (start k .args .a .now) (start k .args .b .now) (omega (arith, measured k .lesser .ensures)) (omega (arith, measured k .lesser .ensures)) (ranAt k .run-steps .ensures) (e .enum-told2 .given .1)) (shortAt k)))))
+    (start k .pre .0, (start k .pre .1 .0, (omega (arith, measured k .lesser .ensures, k .before .before .before .a .given), parts-short (normalOf (start k)) (start k .args .opening) (start k .args .section .now) (measured k .lesser .result) (stepped-given (normalOf (start k)) (start k .args .section .now) (measured k .lesser .result) (start k .args .a .now) (start k .args .b .now) (omega (arith, measured k .lesser .ensures)) (omega (arith, measured k .lesser .ensures)) (ranAt k .run-steps .ensures) (e .enum-told2 .given .1)) (shortAt k))))
 
 enum-known-n : tie.Need-enum-known-n
 enum-known-n c = search needs
@@ -65,7 +65,7 @@ encode-parts-requires-2 : tie.Need-encode-parts-requires-2
 encode-parts-requires-2 c κs =
     let p = c .before .before in
     let k = p .before .before .before .before .before in
-    (start k .pre .0, (start k .pre .1 .0, (start k .pre .1 .1 .0, (omega (arith, measured k .lesser .ensures, k .before .b .given), parts-short (normalOf (start k)) (start k .args .opening) (start k .args .section .now) (measured k .lesser .result) (stepped-a (normalOf (start k)) (start k .args .section .now) (measured k .lesser .result) (start k .args .a .now) (start k .args .b .now) (omega (arith, measured k .lesser .ensures)) (omega (arith, measured k .lesser .ensures)) (ranAt k .run-steps .ensures) (p .before .before .before .n .given .1) (p .part .ensures)) (shortAt k)))))
+    (start k .pre .0, (start k .pre .1 .0, (omega (arith, measured k .lesser .ensures, k .before .b .given), parts-short (normalOf (start k)) (start k .args .opening) (start k .args .section .now) (measured k .lesser .result) (stepped-a (normalOf (start k)) (start k .args .section .now) (measured k .lesser .result) (start k .args .a .now) (start k .args .b .now) (omega (arith, measured k .lesser .ensures)) (omega (arith, measured k .lesser .ensures)) (ranAt k .run-steps .ensures) (p .before .before .before .n .given .1) (p .part .ensures)) (shortAt k))))
 
 enum-known-n-2 : tie.Need-enum-known-n-2
 enum-known-n-2 c = search needs
@@ -77,7 +77,7 @@ encode-parts-requires-3 : tie.Need-encode-parts-requires-3
 encode-parts-requires-3 c κs =
     let p = c .before .before in
     let k = p .before .before .before .before .before in
-    (start k .pre .0, (start k .pre .1 .0, (start k .pre .1 .1 .0, (omega (arith, measured k .lesser .ensures, k .before .before .before .a .given), parts-short (normalOf (start k)) (start k .args .opening) (start k .args .section .now) (measured k .lesser .result) (stepped-b (normalOf (start k)) (start k .args .section .now) (measured k .lesser .result) (start k .args .a .now) (start k .args .b .now) (omega (arith, measured k .lesser .ensures)) (omega (arith, measured k .lesser .ensures)) (ranAt k .run-steps .ensures) (p .before .before .before .n2 .given .1) (p .part2 .ensures)) (shortAt k)))))
+    (start k .pre .0, (start k .pre .1 .0, (omega (arith, measured k .lesser .ensures, k .before .before .before .a .given), parts-short (normalOf (start k)) (start k .args .opening) (start k .args .section .now) (measured k .lesser .result) (stepped-b (normalOf (start k)) (start k .args .section .now) (measured k .lesser .result) (start k .args .a .now) (start k .args .b .now) (omega (arith, measured k .lesser .ensures)) (omega (arith, measured k .lesser .ensures)) (ranAt k .run-steps .ensures) (p .before .before .before .n2 .given .1) (p .part2 .ensures)) (shortAt k))))
 
 same-length : tie.Need-same-length
 same-length c = search needs

@@ -11,10 +11,11 @@ use Rattle.merge.specs.inner.Turns.{Merged}
 use Rattle.sections.specs.Sections.{Item, plain, takenApart, Section, sections}
 use Rattle.sections.proofs.StepLaws.{stepsLeft}
 use Rattle.sections.proofs.SectionLaws.{sectionsLeft, sections-start}
-use Rattle.encode.specs.Parts.{Stretch}
-use Rattle.encode.specs.inner.Tables.{Tables}
-use Rattle.encode.specs.inner.Passes.{partWriter, partsWriter, Normal, sectionStretches, sectionOutputs}
-use Rattle.encode.proofs.WriterLaws.{Going, going-start}
+use Rattle.stretches.specs.Stretches.{Stretch}
+use Rattle.stretches.specs.inner.Tables.{Tables}
+use Rattle.stretches.specs.inner.Parts.{partWriter, partsWriter}
+use Rattle.stretches.proofs.WriterLaws.{Going, going-start}
+use Rattle.encode.specs.inner.Passes.{Normal, sectionStretches, sectionOutputs}
 use Rattle.encode.proofs.PassLaws.{parts-on, parts-fit, token-on, token-fit, parts-ended}
 use Rattle.encode.proofs.ItemLaws.{Short, short-head, short-rest}
 use Rattle.encode.proofs.WalkLaws.{section-here, token-here, none-here, plain-fewer, token-fewer}
@@ -77,7 +78,7 @@ loop-holds c =
     let s = start c in
     let all = sections-start (tokensOf s) (s .args .text .now) in (
       rw (c .sections-start .ensures) (rw all (going-start (map (partWriter (tablesOf s)) (wholeOf s)) (s .args .out .now))),
-      rw (c .sections-start .ensures) (rw all (record { short = s .pre .1 .1 .1 .1 .1 })),
+      rw (c .sections-start .ensures) (rw all (record { short = s .pre .1 .1 .1 .1 })),
       refl,
       refl,
     )
@@ -102,7 +103,7 @@ returns c =
     let f = c .before .before in
     let a = f .before in
     let s = start (a .before) in
-    parts-ended (tablesOf s) (wholeOf s) (leftAt a) (a .loop .inv .0) (ap (takenApart (partsOf s)) (none-here (partsOf s) (tokensOf s) (s .args .text .now) (s .args .first-begins .now) (s .pre .1 .0) (s .pre .1 .1 .0) (a .loop .cursor) (f .next-item .ensures) (c .enum-told .given .1)))
+    parts-ended (tablesOf s) (wholeOf s) (leftAt a) (a .loop .inv .0) (ap (takenApart (partsOf s)) (none-here (partsOf s) (tokensOf s) (s .args .text .now) (s .args .first-begins .now) (s .pre .0) (s .pre .1 .0) (a .loop .cursor) (f .next-item .ensures) (c .enum-told .given .1)))
 
 enum-known-id : tie.Need-enum-known-id Inv-loop μ-loop
 enum-known-id c = search needs
@@ -145,7 +146,7 @@ loop-again c =
     let f = n .before .before in
     let a = f .before in
     let s = start (a .before) in
-    let next = token-here (partsOf s) (tokensOf s) (s .args .text .now) (s .args .first-begins .now) (s .pre .1 .0) (s .pre .1 .1 .0) (a .loop .cursor) (f .next-item .ensures) (n .id .given .1) in (
+    let next = token-here (partsOf s) (tokensOf s) (s .args .text .now) (s .args .first-begins .now) (s .pre .0) (s .pre .1 .0) (a .loop .cursor) (f .next-item .ensures) (n .id .given .1) in (
       token-on (tablesOf s) (wholeOf s) (leftAt a) (a .loop .inv .0) (n .id .given .0 .0) _ (ap (takenApart (partsOf s)) next) (e .put-id .ensures),
       short-rest (a .loop .inv .1) _ _ next,
       a .loop .inv .2,
@@ -179,7 +180,7 @@ nextAt : (p : tie.After-part Inv-loop μ-loop)
     → sectionsLeft (tokensOf (startAt p)) (startAt p .args .text .now) (headAt p .loop .cursor) ≡ plain (sectionAt p) ∷ sectionsLeft (tokensOf (startAt p)) (startAt p .args .text .now) (itemAt p .start .given .0 .1 .1 .1 .0)
 nextAt p =
     let s = startAt p in
-    section-here (partsOf s) (tokensOf s) (s .args .text .now) (s .args .first-begins .now) (s .pre .1 .0) (s .pre .1 .1 .0) (headAt p .loop .cursor) (walkAt p .next-item .ensures) (itemAt p .start .given .1)
+    section-here (partsOf s) (tokensOf s) (s .args .text .now) (s .args .first-begins .now) (s .pre .0) (s .pre .1 .0) (headAt p .loop .cursor) (walkAt p .next-item .ensures) (itemAt p .start .given .1)
 
 mul-encode-normal-section : tie.Need-mul-encode-normal-section Inv-loop μ-loop
 mul-encode-normal-section c =
@@ -201,7 +202,7 @@ encode-normal-section-requires c κs =
     let a = headAt p in
     let s = startAt p in
     let now = itemAt p .start .given .0 in
-    (s .pre .0, (s .pre .1 .1 .1 .0, (s .pre .1 .1 .1 .1 .0, text-short (normalOf s) (s .args .text .now) (now .0) (now .1 .0) (now .1 .1 .0) (roomOf s) (p .part .ensures) (ap₂ min (a .loop .inv .2) (a .loop .inv .3)) (short-head (a .loop .inv .1) (sectionAt p) _ (nextAt p)))))
+    (s .pre .1 .1 .0, (s .pre .1 .1 .1 .0, text-short (normalOf s) (s .args .text .now) (now .0) (now .1 .0) (now .1 .1 .0) (roomOf s) (p .part .ensures) (ap₂ min (a .loop .inv .2) (a .loop .inv .3)) (short-head (a .loop .inv .1) (sectionAt p) _ (nextAt p))))
 
 -- What the call on a section wrote.
 putAt : (e : tie.After-encode-normal-section Inv-loop μ-loop)

@@ -47,7 +47,7 @@ returns-2 : tie.Need-returns-2
 returns-2 c =
     let a = c .before .before .before .before in
     let m = a .before .before .before in
-    part-uncounted _ _ _ _ (too-long _ _ _ _ (m .metaspace .given .1) (start m .args .scratch .now) (start m .pre .1) (a .apply-metaspace .ensures) (c .enum-told2 .given .1)) _
+    part-uncounted _ _ _ _ (too-long _ _ _ _ (m .metaspace .given .1) (start m .args .scratch .now) (start m .pre) (a .apply-metaspace .ensures) (c .enum-told2 .given .1)) _
 
 same-length-2 : tie.Need-same-length-2
 same-length-2 c = search needs
@@ -58,7 +58,7 @@ returns-3 c =
     let n = p .before .before .before in
     let a = n .before .before .before .before in
     let m = a .before .before .before in
-    part-counted (leaves-present _ _ _ _ (m .metaspace .given .1) (start m .args .scratch .now) (start m .pre .1) (a .apply-metaspace .ensures) (n .n .given .1) (p .part .ensures)) _ _ _ (c .before .count-stretch2 .ensures) (c .counts2 .ensures)
+    part-counted (leaves-present _ _ _ _ (m .metaspace .given .1) (start m .args .scratch .now) (start m .pre) (a .apply-metaspace .ensures) (n .n .given .1) (p .part .ensures)) _ _ _ (c .before .count-stretch2 .ensures) (c .counts2 .ensures)
 
 pub count-part-spec : {M : Type 1} → statement M
 count-part-spec =

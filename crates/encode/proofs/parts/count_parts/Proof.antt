@@ -14,8 +14,9 @@ use Rattle.sections.specs.Sections.{Item, plain}
 use Rattle.sections.specs.SecondList.{NormalPart, normalParts}
 use Rattle.sections.proofs.StepLaws.{stepsLeft}
 use Rattle.sections.proofs.PartLaws.{partsLeft, parts-start}
-use Rattle.encode.specs.inner.Tables.{ownIn}
-use Rattle.encode.specs.inner.Passes.{partsSymbols, counted, partStretch, partOutputs}
+use Rattle.stretches.specs.inner.Tables.{ownIn}
+use Rattle.stretches.specs.inner.Parts.{partsSymbols}
+use Rattle.encode.specs.inner.Passes.{counted, partStretch, partOutputs}
 use Rattle.encode.proofs.ItemLaws.{Counting, counting-start, counting-token, counting-full, counting-ended, counting-long, counting-next, counting-fits}
 use Rattle.encode.proofs.PartLaws.{part-next, added-next, none-next, part-fewer, added-fewer, part-found}
 use Rattle.encode.proofs.parts.count_parts.Statement.{statement}
@@ -67,7 +68,7 @@ returns c =
     let f = c .before .before in
     let a = f .before in
     let s = start (a .before) in
-    counting-ended (a .loop .inv .0) (none-next (tokensOf s) (s .args .text .now) (s .args .begins .now) (s .pre .1 .0) (s .pre .1 .1 .0) (a .loop .cursor) (f .next-item .ensures) (c .enum-told .given .1))
+    counting-ended (a .loop .inv .0) (none-next (tokensOf s) (s .args .text .now) (s .args .begins .now) (s .pre .0) (s .pre .1 .0) (a .loop .cursor) (f .next-item .ensures) (c .enum-told .given .1))
 
 enum-known-next : tie.Need-enum-known-next Inv-loop μ-loop
 enum-known-next c = search needs
@@ -82,7 +83,7 @@ loop-less c =
     let n = c .before .before in
     let f = n .before .before in
     let s = start (f .before .before) in
-    added-fewer (tokensOf s) (s .args .text .now) (s .args .begins .now) (s .pre .1 .0) (s .pre .1 .1 .0) (f .before .loop .cursor) (f .next-item .ensures) (n .next .given .1)
+    added-fewer (tokensOf s) (s .args .text .now) (s .args .begins .now) (s .pre .0) (s .pre .1 .0) (f .before .loop .cursor) (f .next-item .ensures) (n .next .given .1)
 
 loop-again : tie.Need-loop-again Inv-loop μ-loop
 loop-again c =
@@ -90,14 +91,14 @@ loop-again c =
     let f = n .before .before in
     let a = f .before in
     let s = start (a .before) in
-    (counting-token (a .loop .inv .0) _ _ (added-next (tokensOf s) (s .args .text .now) (s .args .begins .now) (s .pre .1 .0) (s .pre .1 .1 .0) (a .loop .cursor) (f .next-item .ensures) (n .next .given .1)) (c .if1 .taken), a .loop .inv .1)
+    (counting-token (a .loop .inv .0) _ _ (added-next (tokensOf s) (s .args .text .now) (s .args .begins .now) (s .pre .0) (s .pre .1 .0) (a .loop .cursor) (f .next-item .ensures) (n .next .given .1)) (c .if1 .taken), a .loop .inv .1)
 
 loop-less-2 : tie.Need-loop-less-2 Inv-loop μ-loop
 loop-less-2 c =
     let n = c .before .before in
     let f = n .before .before in
     let s = start (f .before .before) in
-    added-fewer (tokensOf s) (s .args .text .now) (s .args .begins .now) (s .pre .1 .0) (s .pre .1 .1 .0) (f .before .loop .cursor) (f .next-item .ensures) (n .next .given .1)
+    added-fewer (tokensOf s) (s .args .text .now) (s .args .begins .now) (s .pre .0) (s .pre .1 .0) (f .before .loop .cursor) (f .next-item .ensures) (n .next .given .1)
 
 loop-again-2 : tie.Need-loop-again-2 Inv-loop μ-loop
 loop-again-2 c =
@@ -105,7 +106,7 @@ loop-again-2 c =
     let f = n .before .before in
     let a = f .before in
     let s = start (a .before) in
-    (counting-full (a .loop .inv .0) _ _ (added-next (tokensOf s) (s .args .text .now) (s .args .begins .now) (s .pre .1 .0) (s .pre .1 .1 .0) (a .loop .cursor) (f .next-item .ensures) (n .next .given .1)) (c .if1 .left), a .loop .inv .1)
+    (counting-full (a .loop .inv .0) _ _ (added-next (tokensOf s) (s .args .text .now) (s .args .begins .now) (s .pre .0) (s .pre .1 .0) (a .loop .cursor) (f .next-item .ensures) (n .next .given .1)) (c .if1 .left), a .loop .inv .1)
 
 enum-known-start : tie.Need-enum-known-start Inv-loop μ-loop
 enum-known-start c = search needs
@@ -120,7 +121,7 @@ count-part-requires : tie.Need-count-part-requires Inv-loop μ-loop
 count-part-requires c κs =
     let a = c .before .before .before .before .before .before in
     let s = start (a .before) in
-    (s .pre .0, omega (arith, s .pre .1 .1 .1, a .loop .inv .1))
+    omega (arith, s .pre .1 .1, a .loop .inv .1)
 
 enum-told-2 : tie.Need-enum-told-2 Inv-loop μ-loop
 enum-told-2 c = search needs
@@ -148,7 +149,7 @@ nextAt : (p : tie.After-count-part Inv-loop μ-loop)
     → partsLeft (tokensOf (startAt p)) (startAt p .args .text .now) (headAt p .loop .cursor) ≡ plain (partAt p) ∷ partsLeft (tokensOf (startAt p)) (startAt p .args .text .now) (itemAt p .start .given .0 .1 .1 .1 .0)
 nextAt p =
     let s = startAt p in
-    part-next (tokensOf s) (s .args .text .now) (s .args .begins .now) (s .pre .1 .0) (s .pre .1 .1 .0) (headAt p .loop .cursor) (walkAt p .next-item .ensures) (itemAt p .start .given .1)
+    part-next (tokensOf s) (s .args .text .now) (s .args .begins .now) (s .pre .0) (s .pre .1 .0) (headAt p .loop .cursor) (walkAt p .next-item .ensures) (itemAt p .start .given .1)
 
 foundAt : (p : tie.After-count-part Inv-loop μ-loop)
     → p .count-part .result
@@ -181,7 +182,7 @@ loop-less-3 : tie.Need-loop-less-3 Inv-loop μ-loop
 loop-less-3 c =
     let p = c .before .before .before .before .before .before in
     let s = startAt p in
-    part-fewer (tokensOf s) (s .args .text .now) (s .args .begins .now) (s .pre .1 .0) (s .pre .1 .1 .0) (headAt p .loop .cursor) (walkAt p .next-item .ensures) (itemAt p .start .given .1)
+    part-fewer (tokensOf s) (s .args .text .now) (s .args .begins .now) (s .pre .0) (s .pre .1 .0) (headAt p .loop .cursor) (walkAt p .next-item .ensures) (itemAt p .start .given .1)
 
 loop-again-3 : tie.Need-loop-again-3 Inv-loop μ-loop
 loop-again-3 c =

@@ -46,7 +46,7 @@ returns-2 : tie.Need-returns-2
 returns-2 c =
     let a = c .before .before .before .before in
     let m = a .before .before .before in
-    part-unwritten _ _ _ _ (too-long _ _ _ _ (m .metaspace .given .1) (start m .args .scratch .now) (start m .pre .1) (a .apply-metaspace .ensures) (c .enum-told2 .given .1)) _ _
+    part-unwritten _ _ _ _ (too-long _ _ _ _ (m .metaspace .given .1) (start m .args .scratch .now) (start m .pre) (a .apply-metaspace .ensures) (c .enum-told2 .given .1)) _ _
 
 same-length-3 : tie.Need-same-length-3
 same-length-3 c = search needs
@@ -61,7 +61,7 @@ returns-3 c =
     let n = p .before .before .before in
     let a = n .before .before .before .before in
     let m = a .before .before .before in
-    part-written (leaves-present _ _ _ _ (m .metaspace .given .1) (start m .args .scratch .now) (start m .pre .1) (a .apply-metaspace .ensures) (n .n .given .1) (p .part .ensures)) _ _ (e .encode-stretch2 .ensures)
+    part-written (leaves-present _ _ _ _ (m .metaspace .given .1) (start m .args .scratch .now) (start m .pre) (a .apply-metaspace .ensures) (n .n .given .1) (p .part .ensures)) _ _ (e .encode-stretch2 .ensures)
 
 pub encode-part-spec : {M : Type 1} → statement M
 encode-part-spec =

@@ -13,10 +13,11 @@ use Rattle.sections.specs.Sections.{Item, plain, takenApart}
 use Rattle.sections.specs.SecondList.{NormalPart, normalParts}
 use Rattle.sections.proofs.StepLaws.{stepsLeft}
 use Rattle.sections.proofs.PartLaws.{partsLeft, parts-start}
-use Rattle.encode.specs.Parts.{Stretch}
-use Rattle.encode.specs.inner.Tables.{Tables}
-use Rattle.encode.specs.inner.Passes.{partWriter, partsWriter, partStretch, partOutputs}
-use Rattle.encode.proofs.WriterLaws.{Going, going-start}
+use Rattle.stretches.specs.Stretches.{Stretch}
+use Rattle.stretches.specs.inner.Tables.{Tables}
+use Rattle.stretches.specs.inner.Parts.{partWriter, partsWriter}
+use Rattle.stretches.proofs.WriterLaws.{Going, going-start}
+use Rattle.encode.specs.inner.Passes.{partStretch, partOutputs}
 use Rattle.encode.proofs.PassLaws.{parts-on, parts-fit, token-on, token-fit, parts-ended}
 use Rattle.encode.proofs.ItemLaws.{Short, short-head, short-rest}
 use Rattle.encode.proofs.PartLaws.{part-next, added-next, none-next, part-fewer, added-fewer, part-put}
@@ -60,7 +61,7 @@ loop-holds c =
     let s = start c in
     let all = parts-start (tokensOf s) (s .args .opening) (s .args .text .now) in (
       rw (c .parts-start .ensures) (rw all (going-start (map (partWriter (tablesOf s)) (wholeOf s)) (s .args .out .now))),
-      rw (c .parts-start .ensures) (rw all (record { short = s .pre .1 .1 .1 .1 })),
+      rw (c .parts-start .ensures) (rw all (record { short = s .pre .1 .1 .1 })),
       refl,
     )
 
@@ -81,7 +82,7 @@ returns c =
     let f = c .before .before in
     let a = f .before in
     let s = start (a .before) in
-    parts-ended (tablesOf s) (wholeOf s) (leftAt a) (a .loop .inv .0) (ap (takenApart (partStretch (s .args .metaspace))) (none-next (tokensOf s) (s .args .text .now) (s .args .begins .now) (s .pre .1 .0) (s .pre .1 .1 .0) (a .loop .cursor) (f .next-item .ensures) (c .enum-told .given .1)))
+    parts-ended (tablesOf s) (wholeOf s) (leftAt a) (a .loop .inv .0) (ap (takenApart (partStretch (s .args .metaspace))) (none-next (tokensOf s) (s .args .text .now) (s .args .begins .now) (s .pre .0) (s .pre .1 .0) (a .loop .cursor) (f .next-item .ensures) (c .enum-told .given .1)))
 
 enum-known-id : tie.Need-enum-known-id Inv-loop μ-loop
 enum-known-id c = search needs
@@ -115,7 +116,7 @@ loop-less c =
     let n = c .before .before .before .before .before in
     let f = n .before .before in
     let s = start (f .before .before) in
-    added-fewer (tokensOf s) (s .args .text .now) (s .args .begins .now) (s .pre .1 .0) (s .pre .1 .1 .0) (f .before .loop .cursor) (f .next-item .ensures) (n .id .given .1)
+    added-fewer (tokensOf s) (s .args .text .now) (s .args .begins .now) (s .pre .0) (s .pre .1 .0) (f .before .loop .cursor) (f .next-item .ensures) (n .id .given .1)
 
 loop-again : tie.Need-loop-again Inv-loop μ-loop
 loop-again c =
@@ -124,7 +125,7 @@ loop-again c =
     let f = n .before .before in
     let a = f .before in
     let s = start (a .before) in
-    let next = added-next (tokensOf s) (s .args .text .now) (s .args .begins .now) (s .pre .1 .0) (s .pre .1 .1 .0) (a .loop .cursor) (f .next-item .ensures) (n .id .given .1) in (
+    let next = added-next (tokensOf s) (s .args .text .now) (s .args .begins .now) (s .pre .0) (s .pre .1 .0) (a .loop .cursor) (f .next-item .ensures) (n .id .given .1) in (
       token-on (tablesOf s) (wholeOf s) (leftAt a) (a .loop .inv .0) (n .id .given .0 .0) _ (ap (takenApart (partStretch (s .args .metaspace))) next) (e .put-id .ensures),
       short-rest (a .loop .inv .1) _ _ next,
       a .loop .inv .2,
@@ -159,7 +160,7 @@ nextAt : (p : tie.After-part Inv-loop μ-loop)
     → partsLeft (tokensOf (startAt p)) (startAt p .args .text .now) (headAt p .loop .cursor) ≡ plain (partAt p) ∷ partsLeft (tokensOf (startAt p)) (startAt p .args .text .now) (itemAt p .start .given .0 .1 .1 .1 .0)
 nextAt p =
     let s = startAt p in
-    part-next (tokensOf s) (s .args .text .now) (s .args .begins .now) (s .pre .1 .0) (s .pre .1 .1 .0) (headAt p .loop .cursor) (walkAt p .next-item .ensures) (itemAt p .start .given .1)
+    part-next (tokensOf s) (s .args .text .now) (s .args .begins .now) (s .pre .0) (s .pre .1 .0) (headAt p .loop .cursor) (walkAt p .next-item .ensures) (itemAt p .start .given .1)
 
 mul-encode-part : tie.Need-mul-encode-part Inv-loop μ-loop
 mul-encode-part c =
@@ -179,7 +180,7 @@ encode-part-requires : tie.Need-encode-part-requires Inv-loop μ-loop
 encode-part-requires c κs =
     let p = c .before .before in
     let s = startAt p in
-    (s .pre .0, omega (arith, s .pre .1 .1 .1 .0, headAt p .loop .inv .2))
+    omega (arith, s .pre .1 .1 .0, headAt p .loop .inv .2)
 
 -- What the call on a part wrote.
 putAt : (e : tie.After-encode-part Inv-loop μ-loop)
@@ -203,7 +204,7 @@ loop-less-2 : tie.Need-loop-less-2 Inv-loop μ-loop
 loop-less-2 c =
     let p = c .before .before .before .before .before .before .before in
     let s = startAt p in
-    part-fewer (tokensOf s) (s .args .text .now) (s .args .begins .now) (s .pre .1 .0) (s .pre .1 .1 .0) (headAt p .loop .cursor) (walkAt p .next-item .ensures) (itemAt p .start .given .1)
+    part-fewer (tokensOf s) (s .args .text .now) (s .args .begins .now) (s .pre .0) (s .pre .1 .0) (headAt p .loop .cursor) (walkAt p .next-item .ensures) (itemAt p .start .given .1)
 
 loop-again-2 : tie.Need-loop-again-2 Inv-loop μ-loop
 loop-again-2 c =

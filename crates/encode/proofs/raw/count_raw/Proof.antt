@@ -8,9 +8,10 @@ use borrow.Author.Needs.{needs}
 use Rattle.model.specs.Model.{TokenList, tokenList}
 use Rattle.sections.specs.Sections.{Item, takenApart, Section, sections}
 use Rattle.sections.proofs.StepLaws.{stepsLeft}
-use Rattle.encode.specs.Parts.{Stretch, rawStretch}
-use Rattle.encode.specs.inner.Tables.{ownIn}
-use Rattle.encode.specs.inner.Passes.{partsSymbols}
+use Rattle.stretches.specs.Stretches.{Stretch}
+use Rattle.stretches.specs.inner.Tables.{ownIn}
+use Rattle.stretches.specs.inner.Parts.{partsSymbols}
+use Rattle.encode.specs.Parts.{rawStretch}
 use Rattle.encode.proofs.PassLaws.{Tallying, tallying-start, tallying-next, tallying-token, tallying-full, tallying-ended, counted-most, raw-section}
 use Rattle.encode.proofs.WalkLaws.{partsLeft, parts-start, plain-next, token-next, finished, plain-fewer, token-fewer}
 use Rattle.encode.proofs.raw.count_raw.Statement.{statement}
@@ -57,7 +58,7 @@ returns c =
     let f = c .before .before in
     let a = f .before in
     let s = start (a .before) in
-    tallying-ended (a .loop .inv) (finished (partsOf s) (tokensOf s) (s .args .text .now) (s .args .begins .now) (s .pre .1 .0) (s .pre .1 .1) (a .loop .cursor) (f .next-item .ensures) (c .enum-told .given .1))
+    tallying-ended (a .loop .inv) (finished (partsOf s) (tokensOf s) (s .args .text .now) (s .args .begins .now) (s .pre .0) (s .pre .1) (a .loop .cursor) (f .next-item .ensures) (c .enum-told .given .1))
 
 enum-known-next : tie.Need-enum-known-next Inv-loop μ-loop
 enum-known-next c = search needs
@@ -80,7 +81,7 @@ loop-again c =
     let f = n .before .before in
     let a = f .before in
     let s = start (a .before) in
-    tallying-token (a .loop .inv) _ _ (token-next (partsOf s) (tokensOf s) (s .args .text .now) (s .args .begins .now) (s .pre .1 .0) (s .pre .1 .1) (a .loop .cursor) (f .next-item .ensures) (n .next .given .1)) (c .if1 .taken)
+    tallying-token (a .loop .inv) _ _ (token-next (partsOf s) (tokensOf s) (s .args .text .now) (s .args .begins .now) (s .pre .0) (s .pre .1) (a .loop .cursor) (f .next-item .ensures) (n .next .given .1)) (c .if1 .taken)
 
 loop-less-2 : tie.Need-loop-less-2 Inv-loop μ-loop
 loop-less-2 c =
@@ -95,7 +96,7 @@ loop-again-2 c =
     let f = n .before .before in
     let a = f .before in
     let s = start (a .before) in
-    tallying-full (a .loop .inv) _ _ (token-next (partsOf s) (tokensOf s) (s .args .text .now) (s .args .begins .now) (s .pre .1 .0) (s .pre .1 .1) (a .loop .cursor) (f .next-item .ensures) (n .next .given .1)) (c .if1 .left)
+    tallying-full (a .loop .inv) _ _ (token-next (partsOf s) (tokensOf s) (s .args .text .now) (s .args .begins .now) (s .pre .0) (s .pre .1) (a .loop .cursor) (f .next-item .ensures) (n .next .given .1)) (c .if1 .left)
 
 enum-known-start : tie.Need-enum-known-start Inv-loop μ-loop
 enum-known-start c = search needs
@@ -107,7 +108,7 @@ sub-count-section : tie.Need-sub-count-section Inv-loop μ-loop
 sub-count-section c = c .before .before .before .before .before .loop .inv .within
 
 count-section-requires : tie.Need-count-section-requires Inv-loop μ-loop
-count-section-requires c κs = start (c .before .before .before .before .before .before) .pre .0
+count-section-requires c κs = search needs
 
 add-count-2 : tie.Need-add-count-2 Inv-loop μ-loop
 add-count-2 c =
@@ -133,7 +134,7 @@ loop-again-3 c =
     let a = f .before in
     let s = start (a .before) in
     let now = n .start .given .0 in
-    tallying-next (a .loop .inv) (partsOf s (record { start = now .0; stop = now .1 .0; opening = now .1 .1 .0 })) _ (plain-next (partsOf s) (tokensOf s) (s .args .text .now) (s .args .begins .now) (s .pre .1 .0) (s .pre .1 .1) (a .loop .cursor) (f .next-item .ensures) (n .start .given .1))
+    tallying-next (a .loop .inv) (partsOf s (record { start = now .0; stop = now .1 .0; opening = now .1 .1 .0 })) _ (plain-next (partsOf s) (tokensOf s) (s .args .text .now) (s .args .begins .now) (s .pre .0) (s .pre .1) (a .loop .cursor) (f .next-item .ensures) (n .start .given .1))
     (g .count-section .ensures ∙ ap (λ (l : List (Item Stretch)). partsSymbols (ownOf s) (s .args .fallback .now) l (s .args .room - a .loop .count)) (raw-section (s .args .prepend) (s .args .continuation) (s .args .text .now) (now .0) (now .1 .0) (now .1 .1 .0) (g .before .part .ensures)))
     (c .add-held .ensures)
 

@@ -8,10 +8,11 @@ use lib.ListN.{length, take, drop}
 use Rattle.model.specs.Model.{TokenList, tokenList}
 use Rattle.sections.specs.Sections.{Item, takenApart, Section, sections}
 use Rattle.sections.proofs.StepLaws.{stepsLeft}
-use Rattle.encode.specs.Parts.{Stretch, rawStretch}
-use Rattle.encode.specs.inner.Tables.{Tables}
-use Rattle.encode.specs.inner.Passes.{partWriter, partsWriter}
-use Rattle.encode.proofs.WriterLaws.{Going, going-start}
+use Rattle.stretches.specs.Stretches.{Stretch}
+use Rattle.stretches.specs.inner.Tables.{Tables}
+use Rattle.stretches.specs.inner.Parts.{partWriter, partsWriter}
+use Rattle.stretches.proofs.WriterLaws.{Going, going-start}
+use Rattle.encode.specs.Parts.{rawStretch}
 use Rattle.encode.proofs.PassLaws.{parts-on, parts-fit, token-on, token-fit, parts-ended, raw-section}
 use Rattle.encode.proofs.WalkLaws.{partsLeft, parts-start, plain-next, token-next, finished, plain-fewer, token-fewer}
 use Rattle.encode.proofs.raw.write_raw.Statement.{statement}
@@ -71,7 +72,7 @@ returns c =
     let f = c .before .before in
     let a = f .before in
     let s = start (a .before) in
-    parts-ended (tablesOf s) (wholeOf s) (leftAt a) (a .loop .inv) (finished (partsOf s) (tokensOf s) (s .args .text .now) (s .args .begins .now) (s .pre .1 .0) (s .pre .1 .1) (a .loop .cursor) (f .next-item .ensures) (c .enum-told .given .1))
+    parts-ended (tablesOf s) (wholeOf s) (leftAt a) (a .loop .inv) (finished (partsOf s) (tokensOf s) (s .args .text .now) (s .args .begins .now) (s .pre .0) (s .pre .1) (a .loop .cursor) (f .next-item .ensures) (c .enum-told .given .1))
 
 enum-known-id : tie.Need-enum-known-id Inv-loop μ-loop
 enum-known-id c = search needs
@@ -114,7 +115,7 @@ loop-again c =
     let f = n .before .before in
     let a = f .before in
     let s = start (a .before) in
-    token-on (tablesOf s) (wholeOf s) (leftAt a) (a .loop .inv) (n .id .given .0 .0) _ (token-next (partsOf s) (tokensOf s) (s .args .text .now) (s .args .begins .now) (s .pre .1 .0) (s .pre .1 .1) (a .loop .cursor) (f .next-item .ensures) (n .id .given .1)) (e .put-id .ensures)
+    token-on (tablesOf s) (wholeOf s) (leftAt a) (a .loop .inv) (n .id .given .0 .0) _ (token-next (partsOf s) (tokensOf s) (s .args .text .now) (s .args .begins .now) (s .pre .0) (s .pre .1) (a .loop .cursor) (f .next-item .ensures) (n .id .given .1)) (e .put-id .ensures)
 
 enum-known-start : tie.Need-enum-known-start Inv-loop μ-loop
 enum-known-start c = search needs
@@ -137,7 +138,7 @@ part-encode-section-end : tie.Need-part-encode-section-end Inv-loop μ-loop
 part-encode-section-end c = omega arith
 
 encode-section-requires : tie.Need-encode-section-requires Inv-loop μ-loop
-encode-section-requires c κs = start (c .before .before .before .before .before .before .before) .pre .0
+encode-section-requires c κs = search needs
 
 -- What the section's call wrote, as that section's parts.
 abbrev sectionAt : (n : tie.After-start Inv-loop μ-loop) → List (Item Stretch)
@@ -172,7 +173,7 @@ loop-again-2 c =
     let a = f .before in
     let s = start (a .before) in
     let now = n .start .given .0 in
-    parts-on (tablesOf s) (wholeOf s) (leftAt a) (a .loop .inv) (sectionAt n) _ (plain-next (partsOf s) (tokensOf s) (s .args .text .now) (s .args .begins .now) (s .pre .1 .0) (s .pre .1 .1) (a .loop .cursor) (f .next-item .ensures) (n .start .given .1))
+    parts-on (tablesOf s) (wholeOf s) (leftAt a) (a .loop .inv) (sectionAt n) _ (plain-next (partsOf s) (tokensOf s) (s .args .text .now) (s .args .begins .now) (s .pre .0) (s .pre .1) (a .loop .cursor) (f .next-item .ensures) (n .start .given .1))
     (e .encode-section .ensures ∙ ap (λ (l : List (Item Stretch)). partsWriter (tablesOf s) l (take (length (a .loop .out) - a .loop .written) (drop (a .loop .written) (a .loop .out)))) (raw-section (s .args .prepend) (s .args .continuation) (s .args .text .now) (now .0) (now .1 .0) (now .1 .1 .0) (p .part .ensures)))
 
 pub write-raw-spec : {M : Type 1} → statement M

@@ -3,7 +3,8 @@ use mathlib.Core.Path.{ap, _∙_}
 use borrow.Author.Needs.{needs}
 use lib.ListN.{length}
 use Rattle.merge.specs.inner.Turns.{Merged}
-use Rattle.encode.proofs.PassLaws.{written-marked, keeps-parts}
+use Rattle.stretches.proofs.PartLaws.{keeps-parts}
+use Rattle.encode.proofs.PassLaws.{written-marked}
 use Rattle.encode.proofs.section.encode_section.Statement.{statement}
 use Rattle.encode.proofs.section.encode_section.Tie as tie
 

@@ -1,0 +1,274 @@
+-- `stretches::repeats::encode_repeats` meets its contract. The loop's invariant: the units before `from` are written and those from there on follow,
+-- and what each slot remembers holds.
+use Prim.Native.Nat.{ℕ, _-_, _≤_, _<_}
+use mathlib.Core.Path.{_≡_, refl, sym, _∙_}
+use mathlib.Core.Bool.{Bool, false}
+use mathlib.Core.Option.{Option}
+use mathlib.Core.List.{List, [], _∷_}
+use native.Mathlib.Omega.{arith}
+use borrow.Author.Needs.{needs}
+use lib.ListN.{length, take, drop, getD}
+use Rattle.model.specs.Model.{Row, strings}
+use Rattle.units.specs.Units.{cutBy}
+use Rattle.units.specs.Adjacency.{pairNoted}
+use Rattle.units.specs.Derived.{namedCrossings}
+use Rattle.units.specs.Next.{unitsFrom}
+use Rattle.merge.specs.Start.{withVirtualMark}
+use Rattle.merge.specs.inner.Laid.{ownFound, markedChars}
+use Rattle.merge.specs.inner.Turns.{rowIn}
+use Rattle.stretches.specs.declared.repeats.Seen.{Seen}
+use Rattle.stretches.specs.inner.Writers.{Writer, unitWriter, unitWriters}
+use Rattle.stretches.proofs.WriterLaws.{Keeps, Going, going-start, going-fits, going-next, going-ended, keeps-unit}
+use Rattle.stretches.proofs.StretchLaws.{NextUnit, next-unit, first-writer}
+use Rattle.stretches.proofs.RepeatLaws.{Kept, kept-new, Again, again, going-repeated, Table, table-start, table-on, table-put, table-repeated}
+use Rattle.stretches.proofs.repeats.encode_repeats.Statement.{statement}
+use Rattle.stretches.proofs.repeats.encode_repeats.Tie as tie
+
+abbrev Inv-loop : tie.InvT-loop
+Inv-loop kind noted count adjacency piece-bytes piece-offsets lookup fallback first-bytes mark-id left right result rank row-index shift section raw start₀ out₀ seen₀ from₀ written₀ out seen from written =
+    let row = rowIn left right result rank row-index shift in
+    let own = ownFound piece-bytes piece-offsets lookup first-bytes mark-id in
+    let cuts = cutBy kind (namedCrossings (strings piece-bytes piece-offsets) noted count) (pairNoted adjacency) raw section in
+    (from ≤ length section)
+    × Going (unitWriters row own fallback false raw (unitsFrom cuts section start₀)) (unitWriters row own fallback false raw (unitsFrom cuts section from)) out₀ out written
+    × Table row own fallback raw section out written 2048 seen
+
+abbrev μ-loop : tie.MeasureT-loop
+μ-loop kind noted count adjacency piece-bytes piece-offsets lookup fallback first-bytes mark-id left right result rank row-index shift section raw start₀ out₀ seen₀ from₀ written₀ out seen from written = length section - from
+
+abbrev start : tie.After-slice-known Inv-loop μ-loop → tie.Start Inv-loop μ-loop
+start f = f .before .before .before .before .before .before .before .before .before .before .before .before .before .before
+
+-- The rows, own ids and cuts by what is lent.
+abbrev rowOf : tie.Start Inv-loop μ-loop → ℕ → ℕ → Option Row
+rowOf s = rowIn (s .args .left .now) (s .args .right .now) (s .args .result .now) (s .args .rank .now) (s .args .row-index .now) (s .args .shift)
+
+abbrev ownOf : tie.Start Inv-loop μ-loop → List ℕ → Option ℕ
+ownOf s = ownFound (s .args .piece-bytes .now) (s .args .piece-offsets .now) (s .args .lookup .now) (s .args .first-bytes .now) (s .args .mark-id)
+
+abbrev cutsOf : tie.Start Inv-loop μ-loop → ℕ → Bool
+cutsOf s = cutBy (s .args .kind) (namedCrossings (strings (s .args .piece-bytes .now) (s .args .piece-offsets .now)) (s .args .noted .now) (s .args .count)) (pairNoted (s .args .adjacency .now)) (s .args .raw) (s .args .section .now)
+
+-- The unit that is written next.
+here : (f : tie.After-next-unit Inv-loop μ-loop) → NextUnit (cutsOf (start (f .before .before))) (start (f .before .before) .args .section .now) (f .before .loop .from) (f .next-unit .result)
+here f =
+    let s = start (f .before .before) in
+    next-unit (cutsOf s) (s .args .section .now) (f .before .loop .from) (f .next-unit .result) (f .before .loop .inv .0) (f .next-unit .ensures)
+
+-- Its characters, and its writer.
+abbrev charsOf : tie.After-next-unit Inv-loop μ-loop → List (List ℕ)
+charsOf f = markedChars false (start (f .before .before) .args .raw) (take (f .next-unit .result - f .before .loop .from) (drop (f .before .loop .from) (start (f .before .before) .args .section .now)))
+
+abbrev writerOf : tie.After-next-unit Inv-loop μ-loop → Writer
+writerOf f = let s = start (f .before .before) in unitWriter (rowOf s) (ownOf s) (s .args .fallback .now) (charsOf f)
+
+keeps : (f : tie.After-next-unit Inv-loop μ-loop) → Keeps (writerOf f)
+keeps f = let s = start (f .before .before) in keeps-unit (rowOf s) (ownOf s) (s .args .fallback .now) (charsOf f)
+
+-- What its slot remembers.
+abbrev oldOf : tie.After-slot-of Inv-loop μ-loop → Seen
+oldOf f = getD (f .before .before .loop .seen) (f .slot-of .result) (record { start = 0; end = 0; at = 0; starts = 0; count = 0 })
+
+abbrev KeptAt : tie.After-slot-of Inv-loop μ-loop → Type 0
+KeptAt f =
+    let s = start (f .before .before .before) in
+    Kept (rowOf s) (ownOf s) (s .args .fallback .now) (s .args .raw) (s .args .section .now) (f .before .before .loop .out) (f .before .before .loop .written) (oldOf f)
+
+kept : (f : tie.After-slot-of Inv-loop μ-loop) → KeptAt f
+kept f = f .before .before .loop .inv .2 .each (f .slot-of .result) _ (f .slot-of .ensures)
+
+-- The writers from here on, where others follow and where none do.
+writers-more : (f : tie.After-next-unit Inv-loop μ-loop) → f .next-unit .result < length (start (f .before .before) .args .section .now)
+    → let s = start (f .before .before) in
+    unitWriters (rowOf s) (ownOf s) (s .args .fallback .now) false (s .args .raw) (unitsFrom (cutsOf s) (s .args .section .now) (f .before .loop .from))
+    ≡ writerOf f ∷ unitWriters (rowOf s) (ownOf s) (s .args .fallback .now) false (s .args .raw) (unitsFrom (cutsOf s) (s .args .section .now) (f .next-unit .result))
+writers-more f h =
+    let s = start (f .before .before) in
+    first-writer (rowOf s) (ownOf s) (s .args .fallback .now) false (s .args .raw) (s .args .section .now) (f .before .loop .from) (f .next-unit .result) _ _ (here f .more h)
+
+writers-last : (f : tie.After-next-unit Inv-loop μ-loop) → length (start (f .before .before) .args .section .now) ≤ f .next-unit .result
+    → let s = start (f .before .before) in
+    unitWriters (rowOf s) (ownOf s) (s .args .fallback .now) false (s .args .raw) (unitsFrom (cutsOf s) (s .args .section .now) (f .before .loop .from)) ≡ writerOf f ∷ []
+unfolding unitWriters withVirtualMark
+writers-last f h =
+    let s = start (f .before .before) in
+    first-writer (rowOf s) (ownOf s) (s .args .fallback .now) false (s .args .raw) (s .args .section .now) (f .before .loop .from) (f .next-unit .result) _ [] (here f .last h)
+
+-- It comes again.
+repeats : (t : tie.Then1 Inv-loop μ-loop) → Again (start (t .before .before .before .before .before .before) .args .section .now) (t .before .before .before .before .before .loop .out) (t .before .before .before .before .before .loop .written) (oldOf (t .before .before .before)) (t .before .before .before .before .before .loop .from) (t .before .before .before .before .next-unit .result)
+repeats t =
+    let q = t .before in
+    let f = q .before .before .before in
+    again (f .before .loop .from) (f .next-unit .result) (kept (q .before .before)) (q .is-repeat .ensures) (t .if1 .taken)
+
+loop-holds : tie.Need-loop-holds Inv-loop μ-loop
+loop-holds c = (start c .pre, going-start _ _, table-start (start c .args .out .now))
+
+next-unit-requires : tie.Need-next-unit-requires Inv-loop μ-loop
+next-unit-requires c κs = search needs
+
+slot-of-requires : tie.Need-slot-of-requires Inv-loop μ-loop
+slot-of-requires c κs = here c .ends
+
+mul-old : tie.Need-mul-old Inv-loop μ-loop
+mul-old c = omega (arith, c .slot-of .ensures)
+
+array-copy-out-old : tie.Need-array-copy-out-old Inv-loop μ-loop
+array-copy-out-old c = c .slot-of .ensures
+
+sub-room : tie.Need-sub-room Inv-loop μ-loop
+sub-room c = c .before .before .before .loop .inv .1 .within
+
+is-repeat-requires : tie.Need-is-repeat-requires Inv-loop μ-loop
+is-repeat-requires c κs = (kept (c .before) .starts, kept (c .before) .ends, here (c .before .before) .starts, here (c .before .before) .ends)
+
+repeat-ids-requires : tie.Need-repeat-ids-requires Inv-loop μ-loop
+repeat-ids-requires c κs =
+    let t = c .before in
+    let k = kept (t .before .before .before) in
+    let a = repeats t in
+    (k .before, a .few, omega (arith, a .room))
+
+add-written : tie.Need-add-written Inv-loop μ-loop
+add-written c =
+    let t = c .before .before .before .before .before in
+    let f = t .before .before .before .before in
+    let a = repeats t in
+    omega (arith, start (f .before .before) .good .1 .1 .1 .1 .1 .1 .1 .1 .1 .1 .1 .1 .1 .1 .1 .1 .1 .1 .1 .0 .0, a .room, a .few, f .before .loop .inv .1 .long)
+
+returns : tie.Need-returns Inv-loop μ-loop
+returns c =
+    let e = c .before .before .before .before in
+    let t = e .before .before in
+    let f = t .before .before .before .before in
+    going-ended (going-repeated (f .before .loop .inv .1) (kept (t .before .before .before)) (repeats t) (writers-last f (c .if2 .taken)) (e .repeat-ids .ensures))
+
+same-length : tie.Need-same-length Inv-loop μ-loop
+same-length c =
+    let e = c .before .before .before .before in
+    let t = e .before .before in
+    let f = t .before .before .before .before in
+    going-repeated (f .before .loop .inv .1) (kept (t .before .before .before)) (repeats t) (writers-last f (c .if2 .taken)) (e .repeat-ids .ensures) .long
+
+loop-less : tie.Need-loop-less Inv-loop μ-loop
+loop-less c =
+    let f = c .before .before .before .before .before .before .before .before .before .before in
+    let h = here f in
+    omega (arith, h .above (c .if2 .left), h .ends)
+
+loop-again : tie.Need-loop-again Inv-loop μ-loop
+loop-again c =
+    let e = c .before .before .before .before in
+    let t = e .before .before in
+    let f = t .before .before .before .before in
+    let l = f .before .loop in
+    let g = going-repeated (l .inv .1) (kept (t .before .before .before)) (repeats t) (writers-more f (c .if2 .left)) (e .repeat-ids .ensures) in
+    (here f .ends, g, table-repeated (oldOf (t .before .before .before)) (l .inv .2) (l .inv .1) g (e .repeat-ids .ensures))
+
+sub-encode-started : tie.Need-sub-encode-started Inv-loop μ-loop
+sub-encode-started c = here (c .before .before .before .before) .starts
+
+part-encode-started-start : tie.Need-part-encode-started-start Inv-loop μ-loop
+part-encode-started-start c = here (c .before .before .before .before) .starts
+
+part-encode-started-end : tie.Need-part-encode-started-end Inv-loop μ-loop
+part-encode-started-end c = here (c .before .before .before .before) .ends
+
+mul-encode-started : tie.Need-mul-encode-started Inv-loop μ-loop
+mul-encode-started c =
+    let a = c .before .before .before .before .before .before in
+    omega (arith, start (a .before) .good .1 .1 .1 .1 .1 .1 .1 .1 .1 .1 .1 .1 .1 .1 .1 .1 .1 .1 .1 .0 .1, a .loop .inv .1 .within, a .loop .inv .1 .long)
+
+sub-encode-started-2 : tie.Need-sub-encode-started-2 Inv-loop μ-loop
+sub-encode-started-2 c = c .before .before .before .before .before .before .loop .inv .1 .within
+
+part-encode-started-start-2 : tie.Need-part-encode-started-start-2 Inv-loop μ-loop
+part-encode-started-start-2 c = c .before .before .before .before .before .before .loop .inv .1 .within
+
+part-encode-started-end-2 : tie.Need-part-encode-started-end-2 Inv-loop μ-loop
+part-encode-started-end-2 c = omega arith
+
+encode-started-requires : tie.Need-encode-started-requires Inv-loop μ-loop
+encode-started-requires c κs = search needs
+
+mul-seen : tie.Need-mul-seen Inv-loop μ-loop
+mul-seen c = omega (arith, c .before .before .before .before .before .before .before .before .slot-of .ensures)
+
+array-set-from-seen : tie.Need-array-set-from-seen Inv-loop μ-loop
+array-set-from-seen c = c .before .before .before .before .before .before .before .before .slot-of .ensures
+
+add-written-2 : tie.Need-add-written-2 Inv-loop μ-loop
+add-written-2 c =
+    let e = c .before .before .before in
+    let f = e .before .before .before .before .before .before .before in
+    omega
+    (arith, start (f .before .before) .good .1 .1 .1 .1 .1 .1 .1 .1 .1 .1 .1 .1 .1 .1 .1 .1 .1 .1 .1 .0 .0, going-fits (f .before .loop .inv .1) (writerOf f) (keeps f) (e .encode-started .ensures .0))
+
+returns-2 : tie.Need-returns-2 Inv-loop μ-loop
+returns-2 c =
+    let e = c .before .before .before .before in
+    let f = e .before .before .before .before .before .before .before in
+    going-ended (going-next (f .before .loop .inv .1) (writerOf f) [] (writers-last f (c .if3 .taken)) (keeps f) (e .encode-started .ensures .0))
+
+same-length-2 : tie.Need-same-length-2 Inv-loop μ-loop
+same-length-2 c =
+    let e = c .before .before .before .before in
+    let f = e .before .before .before .before .before .before .before in
+    going-next (f .before .loop .inv .1) (writerOf f) [] (writers-last f (c .if3 .taken)) (keeps f) (e .encode-started .ensures .0) .long
+
+loop-less-2 : tie.Need-loop-less-2 Inv-loop μ-loop
+loop-less-2 c =
+    let f = c .before .before .before .before .before .before .before .before .before .before .before in
+    let h = here f in
+    omega (arith, h .above (c .if3 .left), h .ends)
+
+loop-again-2 : tie.Need-loop-again-2 Inv-loop μ-loop
+loop-again-2 c =
+    let e = c .before .before .before .before in
+    let f = e .before .before .before .before .before .before .before in
+    let l = f .before .loop in
+    let s = start (f .before .before) in
+    let h = here f in
+    let g = going-next (l .inv .1) (writerOf f) (unitWriters (rowOf s) (ownOf s) (s .args .fallback .now) false (s .args .raw) (unitsFrom (cutsOf s) (s .args .section .now) (f .next-unit .result))) (writers-more f (c .if3 .left)) (keeps f) (e .encode-started .ensures .0) in (
+      h .ends,
+      g,
+      table-put (c .before .before .before .before .before .before .before .before .before .before .slot-of .result) _
+          (table-on (l .inv .2) (l .inv .1 .within) _ refl (g .long ∙ sym (l .inv .1 .long)) (omega arith))
+          (c .before .before .before .before .before .before .before .before .before .before .slot-of .ensures)
+          (kept-new (l .from) (f .next-unit .result) (l .out) (h .starts) (h .ends) (l .inv .1 .within) (e .encode-started .ensures .0) (e .encode-started .ensures .1)),
+    )
+
+pub encode-repeats-spec : {M : Type 1} → statement M
+encode-repeats-spec =
+    tie.close
+    (tie.spec
+    Inv-loop
+    μ-loop
+    loop-holds
+    next-unit-requires
+    slot-of-requires
+    mul-old
+    array-copy-out-old
+    sub-room
+    is-repeat-requires
+    repeat-ids-requires
+    add-written
+    same-length
+    returns
+    loop-less
+    loop-again
+    sub-encode-started
+    part-encode-started-start
+    part-encode-started-end
+    mul-encode-started
+    sub-encode-started-2
+    part-encode-started-start-2
+    part-encode-started-end-2
+    encode-started-requires
+    mul-seen
+    array-set-from-seen
+    add-written-2
+    same-length-2
+    returns-2
+    loop-less-2
+    loop-again-2)
