@@ -14,7 +14,7 @@
  *
  * THE LIBRARY is libvaritmol.a, for x86-64 Linux and its C calling convention. Of the C library it needs memcpy and memset.
  * A call keeps nothing, allocates nothing and reads nothing but its arguments, so any number of threads may use one model. Of stack
- * varitmol_encode and varitmol_fragments take some 550 KiB, as they hold there what varitmol_prepare derives; varitmol_encode and
+ * varitmol_encode and varitmol_fragments take some 680 KiB, as they hold there what varitmol_prepare derives; varitmol_encode and
  * varitmol_encode_prepared take 120 KiB more, for units and pairs that they remember; all others take 10 KiB or less.
  *
  * WHAT A CALLER ANSWERS FOR. A slice is a pointer and a length in elements. In the flat functions a pointer is aligned for its type and not
@@ -105,7 +105,7 @@ extern "C" {
 
 /* How many words varitmol_prepare derives: of the byte neighbours, and of the index. */
 #define VARITMOL_ADJACENCY_LEN 1024
-#define VARITMOL_INDEX_LEN 136264
+#define VARITMOL_INDEX_LEN 169032
 
 /* The answer's number: 0, or the lowest of the others that applies. Every call tests 1 to 8 over the whole model, save the twins: of these
  * eight they give 1 alone, for a text or list of ids that is too long and for steps or metaspace that are no such numbers.
@@ -266,7 +266,7 @@ struct varitmol_model {
     uint8_t split;
 };
 
-/* What varitmol_model_prepare derives of a model. It is for that model alone, and for as long as no column of it changes. It has some 540 KiB,
+/* What varitmol_model_prepare derives of a model. It is for that model alone, and for as long as no column of it changes. It has some 670 KiB,
  * more than some threads have of stack. */
 struct varitmol_prepared {
     uint64_t adjacency[VARITMOL_ADJACENCY_LEN];

@@ -53,7 +53,7 @@ def main():
     p.add_argument("library", metavar="LIBRARY")
     library = p.parse_args().library
     check, prepare = (function(library, name) for name in ("varitmol_check", "varitmol_prepare"))
-    derived = [(ctypes.c_uint64 * 1024)(), ctypes.c_size_t(1024)] + words([0] * 136264)
+    derived = [(ctypes.c_uint64 * 1024)(), ctypes.c_size_t(1024)] + words([0] * 169032)
     for size in SIZES:
         pieces, rows = model(*size, "", "▁▁" + LETTERS)
         usual, twice = (best_time(check, columns(p, rows), 10) / 1e6 for p in (pieces, pieces + [max(pieces, key=len)]))

@@ -13,18 +13,23 @@ from complaints import run
 
 MARK = "▁"
 TURNING = ("replace", " ", MARK)
-ADJACENCY, INDEX = 1024, 136264
-SLOTS, SHARED, NONE = 131072, 2 ** 31, 2 ** 32 - 1
+ADJACENCY, INDEX = 1024, 169032
+SLOTS, SECOND_SLOTS, SHARED, NONE = 131072, 32768, 2 ** 31, 2 ** 32 - 1
 
 T_PIECES = [b"\xe2\x96\x81", b"a", b"b", b"ab", b"\xe2\x96\x81a", b".", b"\xc3", b"\xa9"]
 T = {"pieces": T_PIECES, "rows": [(0, 1, 4, 1), (1, 2, 3, 0)], "fallback": {0xC3: 6, 0xA9: 7},
      "first": [], "second": [], "steps": [], "metaspace": ("always", False)}
 U = dict(T, pieces=T_PIECES + ["b▁a".encode()], rows=T["rows"] + [(2, 4, 8, 2)])
 
-# Pairs of ids that lie far apart: the three of its rows share a slot of the pair table. Most ids have no piece.
+# Pairs of ids that lie far apart: the three of its rows share a slot of the first pair table. Most ids have no piece.
 S_PIECES = {0: b"a", 2: b"b", 104: b"c", 128: b"d", 206: b"e", 256: b"f", 257: b"ba", 258: b"cd", 259: b"ef"}
 S = dict(T, pieces=[S_PIECES.get(id, b"") for id in range(260)], rows=[(2, 0, 257, 1), (104, 128, 258, 0), (206, 256, 259, 0)],
          fallback={})
+
+# Two of its rows share a slot of the first table, and two another; those two that it does not name share a slot of the second.
+V_PIECES = {0: b"a", 18: b"b", 20: b"c", 37: b"d", 122: b"e", 128: b"f", 139: b"g", 146: b"h", 147: b"cb", 148: b"da", 149: b"eh", 150: b"gf"}
+V = dict(S, pieces=[V_PIECES.get(id, b"") for id in range(151)],
+         rows=[(20, 18, 147, 0), (37, 0, 148, 3), (122, 146, 149, 2), (139, 128, 150, 1)])
 
 
 # ---- the columns
@@ -108,15 +113,26 @@ def slot(left, right):
     return (left * 1327217885 + right * 1123411259) // 32768 % SLOTS
 
 
-def pair_table(m):
+def second_slot(left, right):
+    return (left * 1123411259 + right * 1640531527) // 131072 % SECOND_SLOTS
+
+
+def table(rows, slots, slot_of, places):
     """For each slot one more than the place of its row; where several have it, of that with the lowest rank, and SHARED more."""
-    words = [0] * SLOTS
-    places = {}
-    for place, (left, right, _, _) in enumerate(m["rows"]):
-        places.setdefault(slot(left, right), []).append(place)
-    for at, rows in places.items():
-        words[at] = min(rows, key=lambda place: m["rows"][place][3]) + 1 + (SHARED if len(rows) > 1 else 0)
+    words = [0] * slots
+    sharing = {}
+    for place in places:
+        sharing.setdefault(slot_of(*rows[place][:2]), []).append(place)
+    for at, those in sharing.items():
+        words[at] = min(those, key=lambda place: rows[place][3]) + 1 + (SHARED if len(those) > 1 else 0)
     return words
+
+
+def pair_tables(rows):
+    """The first over all rows, the second over those that the first does not name."""
+    first = table(rows, SLOTS, slot, range(len(rows)))
+    named = {word % SHARED - 1 for word in first if word}
+    return first + table(rows, SECOND_SLOTS, second_slot, [place for place in range(len(rows)) if place not in named])
 
 
 def index(m):
@@ -129,7 +145,7 @@ def index(m):
     return [kind, raw_path_number(m), len(noted), *words, *[0] * (64 - len(words)), ids.get(MARK.encode(), NONE), shift,
             *[sum(pieces[id][0] < b for id in lookup) for b in range(257)],
             *[ids.get(bytes([b]), NONE) for b in range(256)],
-            *[sum(left < b << shift for left, *_ in m["rows"]) for b in range(4097)], *pair_table(m),
+            *[sum(left < b << shift for left, *_ in m["rows"]) for b in range(4097)], *pair_tables(m["rows"]),
             *begun(m["first"]), *begun(m["second"]), max((len(c.encode()) for c in m["first"]), default=0)]
 
 
@@ -160,6 +176,7 @@ CASES = [
     ("a mark and spaces turned into marks, without metaspace", dict(T, steps=[("prepend", MARK), TURNING], metaspace=None), [{}]),
     ("spaces turned into marks alone", dict(T, steps=[TURNING], metaspace=None), [{}]),
     ("three rows share a slot; of the two of lowest rank the first is named", S, [{"index_alone": True}]),
+    ("two rows that the first table does not name share a slot of the second", V, [{"index_alone": True}]),
     ("a piece that is no UTF-8", dict(T, pieces=[b"a\xc3"], rows=[], fallback={}), [{"refused": 3, "rows": 2, "room": 3}]),
 ]
 

@@ -20,7 +20,7 @@ SCHEMES = {None: 0, "never": 1, "always": 2, "first": 3}
 KINDS = ["prepend", "replace", "collapse", "strip"]
 NO_ID = 4294967295
 ADJACENCY_LEN = 1024
-INDEX_LEN = 136264
+INDEX_LEN = 169032
 
 
 def tokens(t):

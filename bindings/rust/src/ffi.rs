@@ -8,7 +8,7 @@
 use crate::tables::Tables;
 
 const ADJACENCY_LEN: usize = 1024;
-const INDEX_LEN: usize = 136_264;
+const INDEX_LEN: usize = 169_032;
 
 /// The index has the number of the raw path here, 0 for none.
 const RAW_PATH: usize = 1;

@@ -4,7 +4,7 @@ use mathlib.Core.Bool.{Bool, true, false, cond, _&&_}
 use mathlib.Core.List.{List, [], _∷_}
 use mathlib.Core.Option.{Option, none, some}
 use Prim.Native.Nat.{ℕ, _+_, _*_, _/_, _^_, _≤_, _<_, min}
-use native.Mathlib.Nat.{not-suc-le-zero, min-eq-left, zero-add, div-mul-le-self, div-lt-iff-lt-mul, mul-le-mul-right}
+use native.Mathlib.Nat.{not-suc-le-zero, min-eq-left, zero-add, add-assoc, div-mul-le-self, div-lt-iff-lt-mul, mul-le-mul-right}
 use native.Mathlib.Omega.{arith}
 use borrow.Author.Tests.{ltb-true, ltb-false, leb-false, eqb-true, lt-ltb, le-ltb, eq-eqb, ne-eqb}
 use lib.Dec.{ltb, leb, eqb}
@@ -29,9 +29,10 @@ use Rattle.model.proofs.LookupLaws.{entries-rise, pieces-fall, id-found}
 use Rattle.model.proofs.RowLaws.{lefts-rise, rows-fall, pair-is-equal, row-found}
 use Rattle.model.proofs.StringLaws.{length-strings}
 use Rattle.model.proofs.Accepted.{Accepted}
-use Rattle.index.specs.Index.{firstByteStart, firstByteWords, firstBytes, idOr, keyId, markId, byteId, byteIds, pieceIndex, bucketShift, bucketStart, bucketWords, buckets, slotCount, pairSlot, slotRows, slotWord, shared, pairWords, rowIndex}
-use Rattle.index.specs.inner.Find.{idOf, keyStart, keyEnd, byteWord, idFrom, rowBetween, pairWord, namedRow, rowHas, rowBy, rowFrom}
-use Rattle.index.proofs.PairLaws.{Says, nothing, alone, several, slot-says, slot-below, names-alone, names-several}
+use Rattle.index.specs.Index.{firstByteStart, firstByteWords, firstBytes, idOr, keyId, markId, byteId, byteIds, pieceIndex, bucketShift, bucketStart, bucketWords, buckets, slotCount, pairSlot, secondSlotCount, secondSlot, rowSlot, shared, namedRow, pairWords, isUnnamed, unnamed, secondWords, pairTables, rowIndex}
+use Rattle.index.specs.inner.Find.{idOf, keyStart, keyEnd, byteWord, idFrom, rowBetween, pairWord, secondWord, rowHas, told, toldOr, rowBeyond, rowFrom}
+use Rattle.index.specs.declared.Told.the-variants.{Row, NoRow, Elsewhere}
+use Rattle.index.proofs.PairLaws.{among, among-all, none-beyond, kept, fails-kept, Says, nothing, alone, several, slot-says, slot-below, second-below, table-at, length-pairs, names-alone, names-several}
 
 -- ---- ids as numbers
 
@@ -178,15 +179,30 @@ module _ (left : List ℕ) (shift : ℕ) where
   bucket-at : (right rank : List ℕ) (b : ℕ) → b < bucketWords → getD (rowIndex left right rank shift) b 0 ≡ bucketStart left shift b
   unfolding rowIndex buckets
   bucket-at right rank b h =
-      List·getD-append (buckets left shift) (pairWords left right rank) 0 b (omega (arith, length-buckets))
+      List·getD-append (buckets left shift) (pairTables left right rank) 0 b (omega (arith, length-buckets))
       ∙ getD-row (bucketStart left shift) bucketWords b 0 h
 
-  word-at : (right rank : List ℕ) (slot : ℕ) → slot < slotCount → getD (rowIndex left right rank shift) (bucketWords + slot) 0 ≡ slotWord rank (slotRows left right slot)
-  unfolding rowIndex pairWords
-  word-at right rank slot h =
-      ap (λ (n : ℕ). getD (rowIndex left right rank shift) (n + slot) 0) (sym length-buckets)
-      ∙ getD-append-add (buckets left shift) (pairWords left right rank) slot 0
-      ∙ getD-row (λ (slot : ℕ). slotWord rank (slotRows left right slot)) slotCount slot 0 h
+  -- The words of the two tables behind the buckets.
+  module _ (right rank : List ℕ) where
+    behind-buckets : (n : ℕ) → getD (rowIndex left right rank shift) (bucketWords + n) 0 ≡ getD (pairTables left right rank) n 0
+    unfolding rowIndex
+    behind-buckets n =
+        ap (λ (k : ℕ). getD (rowIndex left right rank shift) (k + n) 0) (sym length-buckets)
+        ∙ getD-append-add (buckets left shift) (pairTables left right rank) n 0
+
+    first-word : (l r : ℕ) → pairWord (rowIndex left right rank shift) l r ≡ getD (pairWords left right rank) (pairSlot l r) 0
+    unfolding pairWord pairTables
+    first-word l r =
+        behind-buckets (pairSlot l r)
+        ∙ List·getD-append (pairWords left right rank) (secondWords left right rank (pairWords left right rank)) 0 (pairSlot l r) (omega (arith, length-pairs left right rank, slot-below l r))
+
+    second-word : (l r : ℕ) → secondWord (rowIndex left right rank shift) l r ≡ getD (secondWords left right rank (pairWords left right rank)) (secondSlot l r) 0
+    unfolding secondWord pairTables
+    second-word l r =
+        ap (λ (n : ℕ). getD (rowIndex left right rank shift) n 0) (add-assoc bucketWords slotCount (secondSlot l r))
+        ∙ behind-buckets (slotCount + secondSlot l r)
+        ∙ ap (λ (n : ℕ). getD (pairTables left right rank) (n + secondSlot l r) 0) (sym (length-pairs left right rank))
+        ∙ getD-append-add (pairWords left right rank) (secondWords left right rank (pairWords left right rank)) (secondSlot l r) 0
 
   bucket-within : (b : ℕ) → bucketStart left shift b ≤ length left
   unfolding bucketStart
@@ -281,33 +297,65 @@ module _ (left : List ℕ) (shift : ℕ) where
                 past : bucketWords ≤ bucket + 1 → 4096 ≤ bucket
                 past g = omega arith
 
-        slot-of : (i : ℕ) → rowHas left right i l r ≡ true → pairSlot (getD left i 0) (getD right i 0) ≡ pairSlot l r
-        slot-of i e = rw (has-ids i e .0, has-ids i e .1)
+        slot-of : (spread : ℕ → ℕ → ℕ) (i : ℕ) → rowHas left right i l r ≡ true → rowSlot spread left right i ≡ spread l r
+        slot-of spread i e = rw (has-ids i e .0, has-ids i e .1)
 
-        -- A row that is named has the pair, or another way ends as it should.
-        named : (w i : ℕ) → i < length left → namedRow w ≡ i → 0 < w → (rowHas left right i l r ≡ false → cond (ltb w shared) Nothing (rowBetween left right index shift l r) ≡ foundRow left right l r) → rowBy w left right index shift l r ≡ foundRow left right l r
-        named w i h e p rest = rw (ne-eqb w 0 (λ q. omega arith), e) (go (rowHas left right i l r) refl)
-          where
-            go : (b : Bool) → rowHas left right i l r ≡ b → cond b (At i) (cond (ltb w shared) Nothing (rowBetween left right index shift l r)) ≡ foundRow left right l r
-            go true f = sym (has-found i h f)
-            go false f = rest f
+        module _ (small : length left < shared) where
+          -- A table over rows among which the pair's is, if there is one, tells what is so, where what is found elsewhere is right for a
+          -- word that names another row.
+          module _ (spread : ℕ → ℕ → ℕ) (rows : List ℕ) (there : (j : ℕ) → j < length left → rowHas left right j l r ≡ true → among rows j ≡ true) (w : ℕ) (later : Found)
+              (right-later : rowHas left right (namedRow w) l r ≡ false → later ≡ foundRow left right l r) where
+            abbrev right-told : Type 0
+            right-told = toldOr (told left right w l r) later ≡ foundRow left right l r
 
-        by-word : (w : ℕ) → length left < shared → Says left right (pairSlot l r) w → rowBy w left right index shift l r ≡ foundRow left right l r
-        by-word w small (nothing e gone) = rw (eq-eqb w 0 e) (sym (not-found (λ i h k. gone i h (slot-of i k))))
-        by-word w small (alone i h e sole) =
-            named w i h (rw e (names-alone i (omega arith))) (omega arith)
-            (λ f.
-            rw (lt-ltb w shared (omega arith))
-            (sym (not-found (λ j g k. clash f (ap (λ (m : ℕ). rowHas left right m l r) (sym (sole j g (slot-of j k))) ∙ k)))))
-        by-word w small (several i h e) =
-            named w i h (rw e (names-several i (omega arith))) (omega arith) (λ f. rw (le-ltb w shared (omega arith)) row-between)
+            belongs-there : (j : ℕ) → j < length left → rowHas left right j l r ≡ true → (among rows j ≡ true) × (rowSlot spread left right j ≡ spread l r)
+            belongs-there j h e = (there j h e, slot-of spread j e)
 
-        -- By its word, and by the search where rows share the slot, a pair has the row that a search among all rows finds.
-        pub row-from : length left < shared → rowFrom left right index shift l r ≡ foundRow left right l r
-        unfolding rowFrom pairWord
-        row-from small =
-            ap (λ (w : ℕ). rowBy w left right index shift l r) (word-at right rank (pairSlot l r) (slot-below l r))
-            ∙ by-word _ small (slot-says left right (pairSlot l r) rank)
+            named : (i : ℕ) → i < length left → namedRow w ≡ i → 0 < w
+                → (rowHas left right i l r ≡ false → toldOr (cond (ltb w shared) NoRow Elsewhere) later ≡ foundRow left right l r) → right-told
+            unfolding told
+            named i h e p rest = rw (ne-eqb w 0 (λ q. omega arith), e) (go (rowHas left right i l r) refl)
+              where
+                go : (b : Bool) → rowHas left right i l r ≡ b → toldOr (cond b (Row i) (cond (ltb w shared) NoRow Elsewhere)) later ≡ foundRow left right l r
+                go true f = sym (has-found i h f)
+                go false f = rest f
+
+            by-word : Says spread left right rows (spread l r) w → right-told
+            unfolding told
+            by-word (nothing e gone) = rw (eq-eqb w 0 e) (sym (not-found (λ i h k. gone i (belongs-there i h k))))
+            by-word (alone i h e sole) =
+                named i h (rw e (names-alone i (omega arith))) (omega arith)
+                (λ f.
+                rw (lt-ltb w shared (omega arith))
+                (sym (not-found (λ j g k. clash f (ap (λ (m : ℕ). rowHas left right m l r) (sym (sole j (belongs-there j g k))) ∙ k)))))
+            by-word (several i h e) =
+                let is : namedRow w ≡ i = rw e (names-several i (omega arith)) in
+                named i h is (omega arith) (λ f. rw (le-ltb w shared (omega arith)) (right-later (ap (λ (m : ℕ). rowHas left right m l r) is ∙ f)))
+
+          abbrev words : List ℕ
+          words = pairWords left right rank
+
+          -- By the second table, where the first names another row.
+          row-beyond : rowHas left right (namedRow (getD words (pairSlot l r) 0)) l r ≡ false → rowBeyond left right index shift l r ≡ foundRow left right l r
+          unfolding rowBeyond secondWords unnamed
+          row-beyond other =
+              ap (λ (w : ℕ). toldOr (told left right w l r) (rowBetween left right index shift l r)) (second-word right rank l r ∙ table-at secondSlot secondSlotCount left right rank (unnamed left right words) (secondSlot l r) (second-below l r))
+              ∙ by-word secondSlot (unnamed left right words) is-unnamed _ (rowBetween left right index shift l r) (λ f. row-between)
+              (slot-says secondSlot left right (unnamed left right words) (secondSlot l r) rank (fails-kept _ (leb (length left)) (below (length left)) (none-beyond (length left))))
+            where
+              is-unnamed : (j : ℕ) → j < length left → rowHas left right j l r ≡ true → among (unnamed left right words) j ≡ true
+              is-unnamed j h e =
+                  kept (isUnnamed left right words) (below (length left)) j (among-all (length left) j h)
+                  (rw (slot-of pairSlot j e, ne-eqb _ j (λ q. clash other (ap (λ (m : ℕ). rowHas left right m l r) q ∙ e))))
+
+          -- By its words, and by the search where rows share both slots, a pair has the row that a search among all rows finds.
+          pub row-from : rowFrom left right index shift l r ≡ foundRow left right l r
+          unfolding rowFrom pairWords
+          row-from =
+              ap (λ (w : ℕ). toldOr (told left right w l r) (rowBeyond left right index shift l r)) (first-word right rank l r)
+              ∙ by-word pairSlot (below (length left)) (λ j h e. among-all (length left) j h) _ (rowBeyond left right index shift l r) row-beyond
+              (rw (table-at pairSlot slotCount left right rank (below (length left)) (pairSlot l r) (slot-below l r))
+              (slot-says pairSlot left right (below (length left)) (pairSlot l r) rank (none-beyond (length left))))
 
 -- ---- on any tables
 
@@ -322,25 +370,35 @@ no-place {ℓ} : {A : Type ℓ} {i : ℕ} → Nothing ≡ At i → A
 no-place e = clash refl (ap isAt e)
 
 -- A place that is found is one of the rows.
-pub found-inside : (left right index : List ℕ) (shift l r : ℕ) {i : ℕ} → rowFrom left right index shift l r ≡ At i → i < length left
-unfolding rowFrom rowBetween
-found-inside left right index shift l r {i} e = go (eqb w 0) (rowHas left right (namedRow w) l r) (ltb w shared) (ltb (l / 2 ^ shift + 1) bucketWords) refl e
+told-inside : (left right : List ℕ) (word l r : ℕ) (found : Found) {i : ℕ} → (found ≡ At i → i < length left) → toldOr (told left right word l r) found ≡ At i → i < length left
+unfolding told
+told-inside left right word l r found {i} later e = go (eqb word 0) (rowHas left right (namedRow word) l r) (ltb word shared) refl e
   where
-    w : ℕ
-    w = pairWord index l r
+    go : (a b c : Bool) → rowHas left right (namedRow word) l r ≡ b → toldOr (cond a NoRow (cond b (Row (namedRow word)) (cond c NoRow Elsewhere))) found ≡ At i → i < length left
+    go true b c f q = no-place q
+    go false true c f q = let is : namedRow word ≡ i = cc in omega (arith, ltb-true (namedRow word) (length left) (and-left _ _ f))
+    go false false true f q = no-place q
+    go false false false f q = later q
 
+between-inside : (left right index : List ℕ) (shift l r : ℕ) {i : ℕ} → rowBetween left right index shift l r ≡ At i → i < length left
+unfolding rowBetween
+between-inside left right index shift l r {i} e = go (ltb (l / 2 ^ shift + 1) bucketWords) e
+  where
     lo : ℕ
     lo = getD index (l / 2 ^ shift) 0
 
     hi : ℕ
     hi = min (getD index (l / 2 ^ shift + 1) 0) (length left)
 
-    go : (a b c d : Bool) → rowHas left right (namedRow w) l r ≡ b → cond a Nothing (cond b (At (namedRow w)) (cond c Nothing (cond d (searched (rowOrder left right l r) lo hi) Nothing))) ≡ At i → i < length left
-    go true b c d f q = no-place q
-    go false true c d f q = let is : namedRow w ≡ i = cc in omega (arith, ltb-true (namedRow w) (length left) (and-left _ _ f))
-    go false false true d f q = no-place q
-    go false false false true f q = omega (arith, found-below (rowOrder left right l r) lo hi i q)
-    go false false false false f q = no-place q
+    go : (b : Bool) → cond b (searched (rowOrder left right l r) lo hi) Nothing ≡ At i → i < length left
+    go true q = omega (arith, found-below (rowOrder left right l r) lo hi i q)
+    go false q = no-place q
+
+pub found-inside : (left right index : List ℕ) (shift l r : ℕ) {i : ℕ} → rowFrom left right index shift l r ≡ At i → i < length left
+unfolding rowFrom rowBeyond
+found-inside left right index shift l r =
+    told-inside left right (pairWord index l r) l r (rowBeyond left right index shift l r)
+    (told-inside left right (secondWord index l r) l r (rowBetween left right index shift l r) (between-inside left right index shift l r))
 
 -- ---- an accepted model
 

@@ -1,8 +1,8 @@
 -- What is derived of the two sorted tables once, so that a search in them begins near its end: where each first byte begins in the
--- lookup list, the ids of the mark and of single bytes, where each bucket of left ids begins in the merge rows, and a table that names
--- a row for most pairs.
-use Prim.Native.Nat.{ℕ, _+_, _*_, _/_, _%_, _^_}
-use mathlib.Core.Bool.{cond}
+-- lookup list, the ids of the mark and of single bytes, where each bucket of left ids begins in the merge rows, and two tables that
+-- name the row of nearly every pair.
+use Prim.Native.Nat.{ℕ, _+_, _-_, _*_, _/_, _%_, _^_}
+use mathlib.Core.Bool.{Bool, cond, not}
 use mathlib.Core.List.{List, [], _∷_, _++_, map}
 use mathlib.Core.Option.{Option, none, some}
 use lib.Dec.{ltb, eqb}
@@ -60,16 +60,27 @@ bucketWords = 4097
 unfoldable pub buckets : List ℕ → ℕ → List ℕ
 buckets left shift = map (bucketStart left shift) (below bucketWords)
 
--- The pair table. A pair of ids belongs to one of its 131,072 slots, by two odd numbers below 2^31 that spread the pairs.
+-- The pair tables. A pair of ids belongs to one of 131,072 slots of the first, and to one of 32,768 of the second, by odd numbers below
+-- 2^31 that spread the pairs.
 abbrev pub slotCount : ℕ
 slotCount = 131072
 
 unfoldable pub pairSlot : ℕ → ℕ → ℕ
 pairSlot l r = ((l * 1327217885 + r * 1123411259) / 32768) % slotCount
 
--- The rows whose pairs belong to a slot, in their order.
-unfoldable pub slotRows : List ℕ → List ℕ → ℕ → List ℕ
-slotRows left right slot = filter (λ (i : ℕ). eqb (pairSlot (getD left i 0) (getD right i 0)) slot) (below (length left))
+abbrev pub secondSlotCount : ℕ
+secondSlotCount = 32768
+
+unfoldable pub secondSlot : ℕ → ℕ → ℕ
+secondSlot l r = ((l * 1123411259 + r * 1640531527) / 131072) % secondSlotCount
+
+-- The slot of a row's pair, in a table that spreads the pairs so.
+abbrev pub rowSlot : (ℕ → ℕ → ℕ) → List ℕ → List ℕ → ℕ → ℕ
+rowSlot spread left right i = spread (getD left i 0) (getD right i 0)
+
+-- Those of the rows whose pairs belong to a slot, in their order.
+unfoldable pub slotRows : (ℕ → ℕ → ℕ) → List ℕ → List ℕ → List ℕ → ℕ → List ℕ
+slotRows spread left right rows slot = filter (λ (i : ℕ). eqb (rowSlot spread left right i) slot) rows
 
 -- The row of lowest rank, the first of equals: of i and those that follow it.
 abbrev pub lowestRow : List ℕ → ℕ → List ℕ → ℕ
@@ -86,9 +97,31 @@ slotWord rank [] = 0
 slotWord rank (i ∷ []) = i + 1
 slotWord rank (i ∷ j ∷ rows) = lowestRow rank i (j ∷ rows) + 1 + shared
 
+-- The row that a word names.
+abbrev pub namedRow : ℕ → ℕ
+namedRow word = word % shared - 1
+
+-- The words of a table with so many slots, over some of the rows.
+unfoldable pub tableWords : (ℕ → ℕ → ℕ) → ℕ → List ℕ → List ℕ → List ℕ → List ℕ → List ℕ
+tableWords spread count left right rank rows = map (λ (slot : ℕ). slotWord rank (slotRows spread left right rows slot)) (below count)
+
+-- The first table is over all rows.
 unfoldable pub pairWords : List ℕ → List ℕ → List ℕ → List ℕ
-pairWords left right rank = map (λ (slot : ℕ). slotWord rank (slotRows left right slot)) (below slotCount)
+pairWords left right rank = tableWords pairSlot slotCount left right rank (below (length left))
+
+-- The second is over the rows that the words of the first do not name.
+abbrev pub isUnnamed : List ℕ → List ℕ → List ℕ → ℕ → Bool
+isUnnamed left right words i = not (eqb (namedRow (getD words (rowSlot pairSlot left right i) 0)) i)
+
+unfoldable pub unnamed : List ℕ → List ℕ → List ℕ → List ℕ
+unnamed left right words = filter (isUnnamed left right words) (below (length left))
+
+unfoldable pub secondWords : List ℕ → List ℕ → List ℕ → List ℕ → List ℕ
+secondWords left right rank words = tableWords secondSlot secondSlotCount left right rank (unnamed left right words)
+
+unfoldable pub pairTables : List ℕ → List ℕ → List ℕ → List ℕ
+pairTables left right rank = let words = pairWords left right rank in words ++ secondWords left right rank words
 
 -- All that is derived of the merge rows.
 unfoldable pub rowIndex : List ℕ → List ℕ → List ℕ → ℕ → List ℕ
-rowIndex left right rank shift = buckets left shift ++ pairWords left right rank
+rowIndex left right rank shift = buckets left shift ++ pairTables left right rank

@@ -15,14 +15,26 @@ ghost use Rattle.utf8.specs.Lists.{same};
 ghost use Rattle.model.specs.Mark.{mark};
 ghost use Rattle.model.specs.Model.{strings};
 ghost use Rattle.model.specs.inner.Search.{foundId};
-ghost use Rattle.index.specs.Index.{slotCount, pairSlot};
-ghost use Rattle.index.specs.inner.Find.{idOf, keyStart, keyEnd, byteWord, idFrom, rowBetween, namedRow, rowHas, rowFrom};
+ghost use Rattle.index.specs.Index.{slotCount, pairSlot, secondSlotCount, secondSlot, namedRow};
+ghost use Rattle.index.specs.inner.Find.{idOf, keyStart, keyEnd, byteWord, idFrom, rowBetween, rowHas, told, rowBeyond, rowFrom};
+
+// What a word of a pair table tells of a pair.
+pub enum Told {
+    // The place of the pair's row.
+    Row(usize),
+    // The pair has none.
+    NoRow,
+    // Another row is named, and rows share the slot.
+    Elsewhere,
+}
 
 // How many words say where first bytes begin, in the index of the pieces.
 const FIRST_BYTE_WORDS: usize = 257;
 // How many words the buckets take in the index of the rows.
 const BUCKET_WORDS: usize = 4097;
-// What a word of the pair table has more where several rows share its slot.
+// Where the second pair table begins, behind the buckets and the first.
+const SECOND_AT: usize = 135169;
+// What a word of a pair table has more where several rows share its slot.
 const SHARED: usize = 2147483648;
 
 // The id that a number of the index gives.
@@ -109,15 +121,22 @@ fn bucket_of(shift: u32, l: u32) -> usize
     wide(l >> shift)
 }
 
-// The slot of the pair table that a pair belongs to.
+// The slot of the first pair table that a pair belongs to.
 pub fn pair_slot(l: u32, r: u32) -> usize
     ensures { λ s. ⌜ (s ≡ pairSlot l r) × (s < slotCount) ⌝ }
 {
     (wide(l) * 1327217885 + wide(r) * 1123411259) / 32768 % 131072
 }
 
-// The row that a word of the pair table names.
-fn named_row(word: u32) -> usize
+// The slot of the second pair table that a pair belongs to.
+pub fn second_slot(l: u32, r: u32) -> usize
+    ensures { λ s. ⌜ (s ≡ secondSlot l r) × (s < secondSlotCount) ⌝ }
+{
+    (wide(l) * 1123411259 + wide(r) * 1640531527) / 131072 % 32768
+}
+
+// The row that a word of a pair table names.
+pub fn named_row(word: u32) -> usize
     ensures { λ row. ⌜ row ≡ namedRow word ⌝ }
 {
     let past = wide(word) % SHARED;
@@ -138,6 +157,23 @@ fn row_has(left: &[u32], right: &[u32], row: usize, l: u32, r: u32) -> bool
         return false;
     }
     number_at(right, row) == r
+}
+
+// What the word `word` of a pair table tells of the pair `l`, `r`.
+fn tell(left: &[u32], right: &[u32], word: u32, l: u32, r: u32) -> Told
+    ensures { λ t. ⌜ t ≡ told (now (left .entry)) (now (right .entry)) word l r ⌝ }
+{
+    if word == 0 {
+        return Told::NoRow;
+    }
+    let row = named_row(word);
+    if row_has(left, right, row, l, r) {
+        return Told::Row(row);
+    }
+    if wide(word) < SHARED {
+        return Told::NoRow;
+    }
+    Told::Elsewhere
 }
 
 // The place of the merge row of the pair `l`, `r`, searched among the rows of its left id's bucket.
@@ -161,8 +197,27 @@ fn find_row_in_bucket(
     find_row_between(left, right, l, r, start, end)
 }
 
+// The place of the merge row of the pair `l`, `r`, of which the first pair table tells nothing.
+fn find_row_beyond(
+    left: &[u32],
+    right: &[u32],
+    row_index: &[u32],
+    shift: u32,
+    l: u32,
+    r: u32,
+) -> Found
+    ensures { λ f. ⌜ f ≡ rowBeyond (now (left .entry)) (now (right .entry)) (now («row_index» .entry)) shift l r ⌝ }
+{
+    let word = number_at(row_index, SECOND_AT + second_slot(l, r));
+    match tell(left, right, word, l, r) {
+        Told::Row(row) => Found::At(row),
+        Told::NoRow => Found::Nothing,
+        Told::Elsewhere => find_row_in_bucket(left, right, row_index, shift, l, r),
+    }
+}
+
 // The place of the merge row of the pair `l`, `r`. `row_index` says where the rows of each bucket of left ids begin, and behind that
-// which row a pair's slot names.
+// which row a pair's slots name.
 pub fn find_row_from(
     left: &[u32],
     right: &[u32],
@@ -174,15 +229,9 @@ pub fn find_row_from(
     ensures { λ f. ⌜ f ≡ rowFrom (now (left .entry)) (now (right .entry)) (now («row_index» .entry)) shift l r ⌝ }
 {
     let word = number_at(row_index, BUCKET_WORDS + pair_slot(l, r));
-    if word == 0 {
-        return Found::Nothing;
+    match tell(left, right, word, l, r) {
+        Told::Row(row) => Found::At(row),
+        Told::NoRow => Found::Nothing,
+        Told::Elsewhere => find_row_beyond(left, right, row_index, shift, l, r),
     }
-    let row = named_row(word);
-    if row_has(left, right, row, l, r) {
-        return Found::At(row);
-    }
-    if wide(word) < SHARED {
-        return Found::Nothing;
-    }
-    find_row_in_bucket(left, right, row_index, shift, l, r)
 }

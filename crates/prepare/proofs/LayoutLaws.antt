@@ -7,7 +7,8 @@ use lib.ListN.{length, take, drop, set, length-append, length-drop, take-append-
 use lib.Seq.{take-at, drop-at, drop-drop, drop-append-add, length-take-le}
 use Rattle.utf8.proofs.Fronts.{length-row}
 use Rattle.utf8.proofs.Writing.{Written, written-start, written-byte, written-part, written-length, written-ended}
-use Rattle.index.specs.Index.{firstByteStart, firstBytes, markId, byteId, byteIds, pieceIndex, bucketShift, bucketStart, buckets, slotRows, slotWord, pairWords, rowIndex}
+use Rattle.index.specs.Index.{firstByteStart, firstBytes, markId, byteId, byteIds, pieceIndex, bucketShift, bucketStart, buckets, pairWords, secondWords, pairTables, rowIndex}
+use Rattle.index.proofs.PairLaws.{length-pairs, length-second}
 use Rattle.sections.specs.Beginnings.{beginnings, longestContent}
 use Rattle.sections.proofs.SeekLaws.{length-beginnings}
 use Rattle.prepare.specs.Layout.{pieceWords, tokenWords, indexRow}
@@ -24,13 +25,15 @@ pub length-buckets : (left : List ℕ) (shift : ℕ) → length (buckets left sh
 unfolding buckets
 length-buckets left shift = length-row (bucketStart left shift) 4097
 
-pub length-pairWords : (left right rank : List ℕ) → length (pairWords left right rank) ≡ 131072
-unfolding pairWords
-length-pairWords left right rank = length-row (λ (slot : ℕ). slotWord rank (slotRows left right slot)) 131072
+pub length-pairTables : (left right rank : List ℕ) → length (pairTables left right rank) ≡ 163840
+unfolding pairTables
+length-pairTables left right rank =
+    let words = pairWords left right rank in
+    omega (arith, length-append words (secondWords left right rank words), length-pairs left right rank, length-second left right rank words)
 
-pub length-rowIndex : (left right rank : List ℕ) (shift : ℕ) → length (rowIndex left right rank shift) ≡ 135169
+pub length-rowIndex : (left right rank : List ℕ) (shift : ℕ) → length (rowIndex left right rank shift) ≡ 167937
 unfolding rowIndex
-length-rowIndex left right rank shift = omega (arith, length-append (buckets left shift) (pairWords left right rank), length-buckets left shift, length-pairWords left right rank)
+length-rowIndex left right rank shift = omega (arith, length-append (buckets left shift) (pairTables left right rank), length-buckets left shift, length-pairTables left right rank)
 
 -- A part of a buffer that was lent, and came back as a row of its own length.
 pub lent-back : (a k e : ℕ) (xs ys : List ℕ) (row : ℕ → List ℕ) → a + k ≡ e → e ≤ length xs → ys ≡ row (length (take k (drop a xs)))
@@ -70,7 +73,7 @@ module _ (kind raw count : ℕ) (noted : List ℕ) (pieces : List (List ℕ)) (l
   abbrev starts : List ℕ
   starts = pieceIndex pieces lookup ++ rowIndex left right rank shift
 
-  pub length-pieceWords : length row ≡ 135751
+  pub length-pieceWords : length row ≡ 168519
   unfolding pieceWords
   length-pieceWords =
       omega
@@ -78,7 +81,7 @@ module _ (kind raw count : ℕ) (noted : List ℕ) (pieces : List (List ℕ)) (l
 
   -- ---- its parts written one after the other
 
-  module _ (before : List ℕ) (room : 135751 ≤ length before) where
+  module _ (before : List ℕ) (room : 168519 ≤ length before) where
     fits : length row ≤ length before
     fits = omega (arith, length-pieceWords)
 
@@ -120,29 +123,29 @@ module _ (kind raw count : ℕ) (noted : List ℕ) (pieces : List (List ℕ)) (l
           started-long = written-length fits started-written
 
           module _ (bucketed : List ℕ) (g : bucketed ≡ take 582 started ++ buckets left by ++ drop (582 + 4097) started) where
-            bucketed-written : Written row (pairWords left right rank) before bucketed 4679
+            bucketed-written : Written row (pairTables left right rank) before bucketed 4679
             unfolding rowIndex
             bucketed-written =
                 let long = length-buckets left shift in
                 let at : 582 + length (buckets left shift) ≡ 4679 = omega arith in
-                let step = written-part fits started-written {part = buckets left shift} {rest = pairWords left right rank} (record { is = refl }) in
+                let step = written-part fits started-written {part = buckets left shift} {rest = pairTables left right rank} (record { is = refl }) in
                 rw (g, shift-is, ← at) step
 
             pub bucketed-long : length bucketed ≡ length before
             bucketed-long = written-length fits bucketed-written
 
-            module _ (last : List ℕ) (p : last ≡ take 4679 bucketed ++ pairWords left right rank ++ drop 135751 bucketed) where
-              last-written : Written row [] before last 135751
+            module _ (last : List ℕ) (p : last ≡ take 4679 bucketed ++ pairTables left right rank ++ drop 168519 bucketed) where
+              last-written : Written row [] before last 168519
               last-written =
-                  let long = length-pairWords left right rank in
-                  let at : 4679 + length (pairWords left right rank) ≡ 135751 = omega arith in
-                  let step = written-part fits bucketed-written {part = pairWords left right rank} {rest = []} (record { is = sym (append-nil (pairWords left right rank)) }) in
+                  let long = length-pairTables left right rank in
+                  let at : 4679 + length (pairTables left right rank) ≡ 168519 = omega arith in
+                  let step = written-part fits bucketed-written {part = pairTables left right rank} {rest = []} (record { is = sym (append-nil (pairTables left right rank)) }) in
                   rw (p, ← at) step
 
               pub last-long : length last ≡ length before
               last-long = written-length fits last-written
 
-              pub pieces-filled : last ≡ row ++ drop 135751 before
+              pub pieces-filled : last ≡ row ++ drop 168519 before
               pieces-filled = written-ended fits last-written refl ∙ rw length-pieceWords
 
 -- ---- what is derived of the token lists
@@ -154,52 +157,52 @@ module _ (first second : List (List ℕ)) where
       omega
       (arith, length-append (beginnings first 256) (beginnings second 256 ++ (longestContent first ∷ [])), length-append (beginnings second 256) (longestContent first ∷ []), length-beginnings first 256, length-beginnings second 256)
 
-  module _ (before : List ℕ) (room : 136264 ≤ length before) where
+  module _ (before : List ℕ) (room : 169032 ≤ length before) where
     abbrev output : List ℕ
-    output = take 135751 before ++ tokenWords first second
+    output = take 168519 before ++ tokenWords first second
 
-    front-long : length (take 135751 before) ≡ 135751
-    front-long = length-take-le 135751 before (omega arith)
+    front-long : length (take 168519 before) ≡ 168519
+    front-long = length-take-le 168519 before (omega arith)
 
-    length-output : length output ≡ 136264
-    length-output = omega (arith, length-append (take 135751 before) (tokenWords first second), front-long, length-tokenWords)
+    length-output : length output ≡ 169032
+    length-output = omega (arith, length-append (take 168519 before) (tokenWords first second), front-long, length-tokenWords)
 
     token-room : length output ≤ length before
     token-room = omega (arith, length-output)
 
-    tokens-start : Written output (tokenWords first second) before before 135751
+    tokens-start : Written output (tokenWords first second) before before 168519
     tokens-start = record {
       within = omega (arith, length-output);
-      left = drop-at (take 135751 before) (tokenWords first second) 135751 front-long;
-      front = sym (ap (λ (l : List ℕ). l ++ drop 135751 before) (take-at (take 135751 before) (tokenWords first second) 135751 front-long) ∙ take-append-drop 135751 before);
+      left = drop-at (take 168519 before) (tokenWords first second) 168519 front-long;
+      front = sym (ap (λ (l : List ℕ). l ++ drop 168519 before) (take-at (take 168519 before) (tokenWords first second) 168519 front-long) ∙ take-append-drop 168519 before);
     }
 
-    module _ (one : List ℕ) (e : one ≡ take 135751 before ++ beginnings first 256 ++ drop 136007 before) where
-      one-written : Written output (beginnings second 256 ++ (longestContent first ∷ [])) before one 136007
+    module _ (one : List ℕ) (e : one ≡ take 168519 before ++ beginnings first 256 ++ drop 168775 before) where
+      one-written : Written output (beginnings second 256 ++ (longestContent first ∷ [])) before one 168775
       unfolding tokenWords
       one-written =
           let long = length-beginnings first 256 in
-          let at : 135751 + length (beginnings first 256) ≡ 136007 = omega arith in
+          let at : 168519 + length (beginnings first 256) ≡ 168775 = omega arith in
           let step = written-part token-room tokens-start {part = beginnings first 256} {rest = beginnings second 256 ++ (longestContent first ∷ [])} (record { is = refl }) in
           rw (e, ← at) step
 
       pub one-long : length one ≡ length before
       one-long = written-length token-room one-written
 
-      module _ (two : List ℕ) (f : two ≡ take 136007 one ++ beginnings second 256 ++ drop 136263 one) where
-        two-written : Written output (longestContent first ∷ []) before two 136263
+      module _ (two : List ℕ) (f : two ≡ take 168775 one ++ beginnings second 256 ++ drop 169031 one) where
+        two-written : Written output (longestContent first ∷ []) before two 169031
         two-written =
             let long = length-beginnings second 256 in
-            let at : 136007 + length (beginnings second 256) ≡ 136263 = omega arith in
+            let at : 168775 + length (beginnings second 256) ≡ 169031 = omega arith in
             let step = written-part token-room one-written {part = beginnings second 256} {rest = longestContent first ∷ []} (record { is = refl }) in
             rw (f, ← at) step
 
         pub two-long : length two ≡ length before
         two-long = written-length token-room two-written
 
-        pub tokens-filled : (longest : ℕ) → longest ≡ longestContent first → set two 136263 longest ≡ take 135751 before ++ tokenWords first second ++ drop 136264 before
+        pub tokens-filled : (longest : ℕ) → longest ≡ longestContent first → set two 169031 longest ≡ take 168519 before ++ tokenWords first second ++ drop 169032 before
         tokens-filled longest g =
-            ap (set two 136263) g
+            ap (set two 169031) g
             ∙ written-ended token-room (written-byte token-room two-written {rest = []} (record { is = refl })) refl
             ∙ ap (λ (n : ℕ). output ++ drop n before) length-output
 
@@ -209,14 +212,14 @@ module _ (kind raw count : ℕ) (noted : List ℕ) (pieces : List (List ℕ)) (l
   abbrev front : List ℕ
   front = pieceWords kind raw count noted pieces lookup left right rank
 
-  front-is : length front ≡ 135751
+  front-is : length front ≡ 168519
   front-is = length-pieceWords kind raw count noted pieces lookup left right rank all-noted
 
-  pub length-index : length (indexRow kind raw count noted pieces lookup left right rank first second) ≡ 136264
+  pub length-index : length (indexRow kind raw count noted pieces lookup left right rank first second) ≡ 169032
   unfolding indexRow
   length-index = omega (arith, length-append front (tokenWords first second), front-is, length-tokenWords first second)
 
-  pub index-filled : (before written last : List ℕ) → written ≡ front ++ drop 135751 before → last ≡ take 135751 written ++ tokenWords first second ++ drop 136264 written
-      → last ≡ indexRow kind raw count noted pieces lookup left right rank first second ++ drop 136264 before
+  pub index-filled : (before written last : List ℕ) → written ≡ front ++ drop 168519 before → last ≡ take 168519 written ++ tokenWords first second ++ drop 169032 written
+      → last ≡ indexRow kind raw count noted pieces lookup left right rank first second ++ drop 169032 before
   unfolding indexRow
-  index-filled before written last = behind-front front (tokenWords first second) 135751 513 front-is before written last
+  index-filled before written last = behind-front front (tokenWords first second) 168519 513 front-is before written last

@@ -1,4 +1,4 @@
--- Laws of the pair table: row by row each is noted in the word of its slot, and at the end the words are those of the whole.
+-- Laws of the pair tables: row by row each is noted in the word of its slot, and at the end the words are those of all.
 use mathlib.Core.Path.{_≡_, refl, sym, ap, _∙_}
 use mathlib.Core.Bool.{Bool, true, false, cond}
 use mathlib.Core.List.{List, [], _∷_, _++_, map, append-nil}
@@ -8,12 +8,14 @@ use native.Mathlib.Numerals.{add-one}
 use native.Mathlib.Omega.{arith}
 use borrow.Author.Tests.{ltb-true, lt-ltb, le-ltb, eq-eqb, ne-eqb}
 use lib.Dec.{ltb, eqb}
-use lib.ListN.{length, getD, take, set}
+use lib.ListN.{length, getD, take, set, length-append, List·getD-append}
+use lib.Seq.{take-at, length-take-le, getD-append-add}
 use Rattle.utf8.specs.Lists.{all, filter, countFrom, below}
 use Rattle.utf8.proofs.Tests.{and-left, and-right, and-both}
-use Rattle.utf8.proofs.Fronts.{length-row, getD-row}
+use Rattle.utf8.proofs.Fronts.{getD-row}
 use Rattle.model.specs.Answers.{zeros}
-use Rattle.index.specs.Index.{pairSlot, slotRows, lowestRow, shared, slotWord, pairWords}
+use Rattle.index.specs.Index.{pairSlot, secondSlot, rowSlot, slotRows, lowestRow, shared, slotWord, namedRow, tableWords, pairWords, isUnnamed, unnamed, secondWords}
+use Rattle.index.proofs.PairLaws.{length-table}
 use Rattle.prepare.specs.inner.Pairs.{wordWith}
 
 -- ---- numbers below one more, and those of them that pass a test
@@ -125,79 +127,147 @@ set-row f g first (suc n) (suc s) h same =
     rw (same first (λ e. omega arith), add-suc, ← suc-add)
     (ap (λ (l : List ℕ). g first ∷ l) (set-row f g (suc first) n s (le-of-suc-le-suc h) (λ k d. same k (λ e. d (omega arith)))))
 
--- ---- the table after some rows
+-- ---- a table over some rows
+
+module _ (spread : ℕ → ℕ → ℕ) (left right rank : List ℕ) where
+  wordOf : List ℕ → ℕ → ℕ
+  wordOf rows slot = slotWord rank (slotRows spread left right rows slot)
+
+  rows-next : (rows : List ℕ) (i slot : ℕ) → slotRows spread left right (rows ++ (i ∷ [])) slot ≡ slotRows spread left right rows slot ++ cond (eqb (rowSlot spread left right i) slot) (i ∷ []) []
+  unfolding slotRows
+  rows-next rows i slot = filter-last (λ (j : ℕ). eqb (rowSlot spread left right j) slot) rows i
+
+  -- With one row more the words of other slots stay, and that of its own has one row more.
+  word-stays : (rows : List ℕ) (i slot : ℕ) → (slot ≡ rowSlot spread left right i → ⊥) → wordOf rows slot ≡ wordOf (rows ++ (i ∷ [])) slot
+  unfolding wordOf
+  word-stays rows i slot other = ap (slotWord rank) (sym (rows-next rows i slot ∙ rw (ne-eqb (rowSlot spread left right i) slot (λ e. other (sym e)), append-nil)))
+
+  word-grows : (rows : List ℕ) (i slot : ℕ) → small 1048576 rows ≡ true → slot ≡ rowSlot spread left right i → wordOf (rows ++ (i ∷ [])) slot ≡ wordWith rank (wordOf rows slot) i
+  unfolding wordOf slotRows
+  word-grows rows i slot few own =
+      ap (slotWord rank) (rows-next rows i slot ∙ rw (eq-eqb (rowSlot spread left right i) slot (sym own)))
+      ∙ word-next rank (slotRows spread left right rows slot) i (small-filter 1048576 (λ (j : ℕ). eqb (rowSlot spread left right j) slot) rows few)
+
+  module _ (n : ℕ) where
+    -- Over no rows all words are zero.
+    pub table-start : zeros n ≡ tableWords spread n left right rank []
+    unfolding tableWords slotRows slotWord
+    table-start = go 0 n
+      where
+        go : (first n : ℕ) → zeros n ≡ map (λ (slot : ℕ). slotWord rank (slotRows spread left right [] slot)) (countFrom first n)
+        go first zero = refl
+        go first (suc n) = ap (λ (l : List ℕ). 0 ∷ l) (go (suc first) n)
+
+    -- One row more is noted in its slot.
+    pub table-next : (rows words : List ℕ) (i slot word : ℕ) → words ≡ tableWords spread n left right rank rows → small 1048576 rows ≡ true → slot < n → slot ≡ rowSlot spread left right i → word ≡ wordWith rank (getD words slot 0) i
+        → set words slot word ≡ tableWords spread n left right rank (rows ++ (i ∷ []))
+    unfolding tableWords wordOf
+    table-next rows words i slot word is few h s w =
+        let old : getD words slot 0 ≡ wordOf rows slot = ap (λ (l : List ℕ). getD l slot 0) is ∙ getD-row (wordOf rows) n slot 0 h in
+        let new : word ≡ wordOf (rows ++ (i ∷ [])) (0 + slot) = w ∙ ap (λ (o : ℕ). wordWith rank o i) old ∙ sym (word-grows rows i slot few s) ∙ ap (wordOf (rows ++ (i ∷ []))) (sym (zero-add slot)) in
+        rw (is, new) (set-row (wordOf rows) (wordOf (rows ++ (i ∷ []))) 0 n slot h (λ j d. word-stays rows i j (λ e. d (e ∙ sym s ∙ sym (zero-add slot)))))
+
+-- ---- the rows in their order
+
+below-next : (i : ℕ) → below (i + 1) ≡ below i ++ (i ∷ [])
+below-next i = ap below (add-one i) ∙ count-next 0 i ∙ ap (λ (k : ℕ). below i ++ (k ∷ [])) (zero-add i)
+
+below-small : (i : ℕ) → i ≤ 1048576 → small 1048576 (below i) ≡ true
+below-small i h = small-count 1048576 0 i (omega arith)
+
+-- ---- the first table
 
 module _ (left right rank : List ℕ) where
-  -- the slot of a row
-  slotOf : ℕ → ℕ
-  slotOf i = pairSlot (getD left i 0) (getD right i 0)
+  -- Its words over the first i rows.
+  abbrev pub firstTable : ℕ → ℕ → List ℕ
+  firstTable n i = tableWords pairSlot n left right rank (below i)
 
-  -- the first i rows that belong to a slot, and their word
-  rowsBefore : ℕ → ℕ → List ℕ
-  rowsBefore i slot = filter (λ (j : ℕ). eqb (slotOf j) slot) (below i)
-
-  wordAfter : ℕ → ℕ → ℕ
-  wordAfter i slot = slotWord rank (rowsBefore i slot)
-
-  -- The first n words of the table of the first i rows.
-  pub tableOf : ℕ → ℕ → List ℕ
-  tableOf i n = map (wordAfter i) (below n)
-
-  rows-next : (i slot : ℕ) → rowsBefore (i + 1) slot ≡ rowsBefore i slot ++ cond (eqb (slotOf i) slot) (i ∷ []) []
-  unfolding rowsBefore
-  rows-next i slot =
-      let more : below (i + 1) ≡ below i ++ (i ∷ []) = ap below (add-one i) ∙ count-next 0 i ∙ ap (λ (k : ℕ). below i ++ (k ∷ [])) (zero-add i) in
-      ap (filter (λ (j : ℕ). eqb (slotOf j) slot)) more ∙ filter-last (λ (j : ℕ). eqb (slotOf j) slot) (below i) i
-
-  rows-small : (i slot : ℕ) → i ≤ 1048576 → small 1048576 (rowsBefore i slot) ≡ true
-  unfolding rowsBefore
-  rows-small i slot h = small-filter 1048576 (λ (j : ℕ). eqb (slotOf j) slot) (below i) (small-count 1048576 0 i (omega arith))
-
-  -- The words of other slots stay, and that of its own has one row more.
-  word-stays : (i slot : ℕ) → (slot ≡ slotOf i → ⊥) → wordAfter i slot ≡ wordAfter (i + 1) slot
-  unfolding wordAfter
-  word-stays i slot other = ap (slotWord rank) (sym (rows-next i slot ∙ rw (ne-eqb (slotOf i) slot (λ e. other (sym e)), append-nil)))
-
-  word-grows : (i : ℕ) → i < 1048576 → wordAfter (i + 1) (slotOf i) ≡ wordWith rank (wordAfter i (slotOf i)) i
-  unfolding wordAfter
-  word-grows i h =
-      ap (slotWord rank) (rows-next i (slotOf i) ∙ rw (eq-eqb (slotOf i) (slotOf i) refl)) ∙ word-next rank (rowsBefore i (slotOf i)) i (rows-small i (slotOf i) (omega arith))
-
-  pub length-table : (i n : ℕ) → length (tableOf i n) ≡ n
-  unfolding tableOf
-  length-table i n = length-row (wordAfter i) n
-
-  -- Before the first row all words are zero.
-  table-start : (n : ℕ) → zeros n ≡ tableOf 0 n
-  unfolding tableOf wordAfter rowsBefore slotWord
-  table-start n = go 0 n
-    where
-      go : (first n : ℕ) → zeros n ≡ map (wordAfter 0) (countFrom first n)
-      go first zero = refl
-      go first (suc n) = ap (λ (l : List ℕ). 0 ∷ l) (go (suc first) n)
-
-  pub table-cleared : (n : ℕ) (words cleared : List ℕ) → length words ≡ n → cleared ≡ take 0 words ++ zeros (length words - 0) → cleared ≡ tableOf 0 n
-  table-cleared n words cleared long e =
+  pub first-cleared : (n : ℕ) (words cleared : List ℕ) → length words ≡ n → cleared ≡ take 0 words ++ zeros (length words - 0) → cleared ≡ firstTable n 0
+  first-cleared n words cleared long e =
       let all : length words - 0 ≡ n = omega arith in
-      e ∙ ap zeros all ∙ table-start n
+      e ∙ ap zeros all ∙ table-start pairSlot left right rank n
 
-  module _ (i n : ℕ) (words : List ℕ) (is : words ≡ tableOf i n) where
-    -- One row more is noted in its slot.
-    pub table-next : (slot word : ℕ) → i < 1048576 → slot < n → slot ≡ pairSlot (getD left i 0) (getD right i 0) → word ≡ wordWith rank (getD words slot 0) i → set words slot word ≡ tableOf (i + 1) n
-    unfolding tableOf slotOf
-    table-next slot word h k s w =
-        let old : getD words slot 0 ≡ wordAfter i slot = ap (λ (l : List ℕ). getD l slot 0) is ∙ getD-row (wordAfter i) n slot 0 k in
-        let new : word ≡ wordAfter (i + 1) (0 + slot) = w ∙ ap (λ (o : ℕ). wordWith rank o i) old ∙ grown slot s ∙ ap (wordAfter (i + 1)) (sym (zero-add slot)) in
-        rw (is, new) (set-row (wordAfter i) (wordAfter (i + 1)) 0 n slot k (λ j d. word-stays i j (λ e. d (e ∙ sym s ∙ sym (zero-add slot)))))
-      where
-        grown : (slot : ℕ) → slot ≡ slotOf i → wordWith rank (wordAfter i slot) i ≡ wordAfter (i + 1) slot
-        grown slot s = rw s (sym (word-grows i h))
+  pub first-next : (n i : ℕ) (words : List ℕ) (slot word : ℕ) → words ≡ firstTable n i → i < 1048576 → slot < n → slot ≡ rowSlot pairSlot left right i → word ≡ wordWith rank (getD words slot 0) i → set words slot word ≡ firstTable n (i + 1)
+  first-next n i words slot word is few h s w =
+      table-next pairSlot left right rank n (below i) words i slot word is (below-small i (omega arith)) h s w
+      ∙ ap (tableWords pairSlot n left right rank) (sym (below-next i))
 
-  whole : (n : ℕ) → tableOf (length left) n ≡ map (λ (slot : ℕ). slotWord rank (slotRows left right slot)) (below n)
-  unfolding tableOf wordAfter rowsBefore slotOf slotRows
-  whole n = refl
-
-  -- After the last row they are those of all.
-  pub table-ended : (i : ℕ) → i ≡ length left → tableOf i 131072 ≡ pairWords left right rank
+  pub first-ended : (i : ℕ) → i ≡ length left → firstTable 131072 i ≡ pairWords left right rank
   unfolding pairWords
-  table-ended i e = ap (λ (k : ℕ). tableOf k 131072) e ∙ whole 131072
+  first-ended i e = ap (firstTable 131072) e
+
+-- ---- the second table, behind the words of the first
+
+set-behind : (xs ys : List ℕ) (n k a : ℕ) → length xs ≡ n → set (xs ++ ys) (n + k) a ≡ xs ++ set ys k a
+set-behind [] ys n k a e = rw (← e, zero-add)
+set-behind (x ∷ xs) ys n k a e = rw (← e, suc-add) (ap (λ (l : List ℕ). x ∷ l) (set-behind xs ys (length xs) k a refl))
+
+-- The first m words of a buffer that is cleared from there on.
+module _ (m n : ℕ) (words cleared : List ℕ) (all : length words ≡ m + n) (e : cleared ≡ take m words ++ zeros (length words - m)) where
+  front-long : length (take m words) ≡ m
+  front-long = length-take-le m words (omega arith)
+
+  pub front-same : take m cleared ≡ take m words
+  front-same = ap (take m) e ∙ take-at (take m words) (zeros (length words - m)) m front-long
+
+  pub front-kept : length (take m cleared) ≡ m
+  front-kept = ap length front-same ∙ front-long
+
+  pub front-cleared : cleared ≡ take m cleared ++ zeros n
+  front-cleared =
+      let rest : length words - m ≡ n = omega arith in
+      e ∙ rw (← front-same, rest)
+
+module _ (left right rank first : List ℕ) where
+  -- Those of the first i rows that the first table does not name.
+  unnamedBefore : ℕ → List ℕ
+  unnamedBefore i = filter (isUnnamed left right first) (below i)
+
+  -- The words of both tables, of the second over these.
+  pub bothTables : ℕ → ℕ → List ℕ
+  bothTables n i = first ++ tableWords secondSlot n left right rank (unnamedBefore i)
+
+  unnamed-next : (i : ℕ) → unnamedBefore (i + 1) ≡ unnamedBefore i ++ cond (isUnnamed left right first i) (i ∷ []) []
+  unfolding unnamedBefore
+  unnamed-next i = ap (filter (isUnnamed left right first)) (below-next i) ∙ filter-last (isUnnamed left right first) (below i) i
+
+  pub both-start : (n : ℕ) → first ++ zeros n ≡ bothTables n 0
+  unfolding bothTables unnamedBefore
+  both-start n = ap (λ (l : List ℕ). first ++ l) (table-start secondSlot left right rank n)
+
+  pub both-ended : (i : ℕ) → i ≡ length left → bothTables 32768 i ≡ first ++ secondWords left right rank first
+  unfolding bothTables unnamedBefore secondWords unnamed
+  both-ended i e = ap (bothTables 32768) e
+
+  module _ (m : ℕ) (long : length first ≡ m) where
+    pub length-both : (n i : ℕ) → length (bothTables n i) ≡ m + n
+    unfolding bothTables
+    length-both n i = length-append first (tableWords secondSlot n left right rank (unnamedBefore i)) ∙ rw (long, length-table secondSlot n left right rank (unnamedBefore i))
+
+    module _ (n i : ℕ) (words : List ℕ) (is : words ≡ bothTables n i) (slot : ℕ) (own : slot ≡ rowSlot pairSlot left right i) (h : slot < m) where
+      first-read : getD words slot 0 ≡ getD first (rowSlot pairSlot left right i) 0
+      unfolding bothTables
+      first-read =
+          ap (λ (l : List ℕ). getD l slot 0) is
+          ∙ List·getD-append first (tableWords secondSlot n left right rank (unnamedBefore i)) 0 slot (omega (arith, long))
+          ∙ ap (λ (k : ℕ). getD first k 0) own
+
+      -- A row that the first table names is passed.
+      pub both-passed : namedRow (getD words slot 0) ≡ i → words ≡ bothTables n (i + 1)
+      unfolding bothTables
+      both-passed named =
+          let test : isUnnamed left right first i ≡ false = rw (← first-read, eq-eqb _ i named) in
+          is ∙ ap (λ (rows : List ℕ). first ++ tableWords secondSlot n left right rank rows) (sym (unnamed-next i ∙ rw (test, append-nil)))
+
+      -- Any other is noted in its slot of the second.
+      pub both-next : (at word : ℕ) → (namedRow (getD words slot 0) ≡ i → ⊥) → i < 1048576 → at < n → at ≡ rowSlot secondSlot left right i → word ≡ wordWith rank (getD words (m + at) 0) i
+          → set words (m + at) word ≡ bothTables n (i + 1)
+      unfolding bothTables unnamedBefore
+      both-next at word other few k s w =
+          let table = tableWords secondSlot n left right rank (unnamedBefore i) in
+          let test : isUnnamed left right first i ≡ true = rw (← first-read, ne-eqb _ i other) in
+          let read : getD words (m + at) 0 ≡ getD table at 0 = rw (is, ← long) (getD-append-add first table at 0) in
+          let next = table-next secondSlot left right rank n (unnamedBefore i) table i at word refl (small-filter 1048576 (isUnnamed left right first) (below i) (below-small i (omega arith))) k s (w ∙ ap (λ (o : ℕ). wordWith rank o i) read) in
+          ap (λ (l : List ℕ). set l (m + at) word) is
+          ∙ set-behind first table m at word long
+          ∙ ap (λ (l : List ℕ). first ++ l) (next ∙ ap (tableWords secondSlot n left right rank) (sym (unnamed-next i ∙ rw test)))

@@ -35,7 +35,7 @@ use Rattle.prepare.specs.inner.Derive.{indexOf}
 
 module _ (m : Model) (rows index : List ℕ) where
   abbrev short : Bool
-  short = ltb (length rows) 1024 || ltb (length index) 136264
+  short = ltb (length rows) 1024 || ltb (length index) 169032
 
   -- A refusal leaves both rows as they were.
   abbrev kept : ℕ → PrepareOutcome
@@ -60,13 +60,13 @@ module _ (m : Model) (rows index : List ℕ) where
     unfolding prepareOutcome
     short-rows h = rw (later, lt-ltb (length rows) 1024 h)
 
-    pub short-index : 1024 ≤ length rows → length index < 136264 → prepareOutcome m rows index ≡ kept 12
+    pub short-index : 1024 ≤ length rows → length index < 169032 → prepareOutcome m rows index ≡ kept 12
     unfolding prepareOutcome
-    short-index h k = rw (later, le-ltb (length rows) 1024 h, lt-ltb (length index) 136264 k)
+    short-index h k = rw (later, le-ltb (length rows) 1024 h, lt-ltb (length index) 169032 k)
 
-    pub prepared : 1024 ≤ length rows → 136264 ≤ length index → prepareOutcome m rows index ≡ record { answer = done 137288 0 0; adjacency = filled (derivedAdjacency m) rows; index = filled (derivedIndex m) index }
+    pub prepared : 1024 ≤ length rows → 169032 ≤ length index → prepareOutcome m rows index ≡ record { answer = done 170056 0 0; adjacency = filled (derivedAdjacency m) rows; index = filled (derivedIndex m) index }
     unfolding prepareOutcome
-    prepared h k = rw (later, le-ltb (length rows) 1024 h, le-ltb (length index) 136264 k)
+    prepared h k = rw (later, le-ltb (length rows) 1024 h, le-ltb (length index) 169032 k)
 
 -- ---- crossings that are noted
 
@@ -143,8 +143,8 @@ module _ (m : Model) where
         (arith, lookup-length (piecesOf m) (m .lookup) (ok .lookupNames) (ok .lookupRises), length-strings (m .pieceBytes) (m .pieceOffsets), ok .sizes .pieceLimit)
 
   -- What the two rows hold, put together with the answer.
-  pub put-together : (rows index : List ℕ) → checkNumber m ≡ 0 → 1024 ≤ length rows → 136264 ≤ length index → (answer : Answer) (a i : List ℕ)
-      → answer ≡ done 137288 0 0
+  pub put-together : (rows index : List ℕ) → checkNumber m ≡ 0 → 1024 ≤ length rows → 169032 ≤ length index → (answer : Answer) (a i : List ℕ)
+      → answer ≡ done 170056 0 0
       → a ≡ filled (adjacency (strings (m .pieceBytes) (m .pieceOffsets))) rows
       → i ≡ filled (indexOf (strings (m .pieceBytes) (m .pieceOffsets)) (m .lookup) (m .left) (m .right) (m .rank) (strings (m .first .bytes) (m .first .offsets)) (strings (m .second .bytes) (m .second .offsets)) (m .stepBytes) (take (m .stepCount) (m .steps)) (m .metaspace)) index
       → _≡_ {A = PrepareOutcome} (record { answer = answer; adjacency = a; index = i }) (prepareOutcome m rows index)

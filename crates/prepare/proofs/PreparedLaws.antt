@@ -46,9 +46,9 @@ whole : (row out : List ℕ) → length out ≡ length row → filled row out �
 unfolding filled
 whole row out e = let none : length out - length row ≡ 0 = omega arith in rw none (append-nil row)
 
-module _ (m : Model) (fine : checkNumber m ≡ 0) (adjacency index : List ℕ) (rows : length adjacency ≡ 1024) (words : length index ≡ 136264) {answer : Answer} {a i : List ℕ}
+module _ (m : Model) (fine : checkNumber m ≡ 0) (adjacency index : List ℕ) (rows : length adjacency ≡ 1024) (words : length index ≡ 169032) {answer : Answer} {a i : List ℕ}
     (is : _≡_ {A = PrepareOutcome} (record { answer = answer; adjacency = a; index = i }) (prepareOutcome m adjacency index)) where
-  told : _≡_ {A = PrepareOutcome} (record { answer = answer; adjacency = a; index = i }) (record { answer = done 137288 0 0; adjacency = filled (derivedAdjacency m) adjacency; index = filled (derivedIndex m) index })
+  told : _≡_ {A = PrepareOutcome} (record { answer = answer; adjacency = a; index = i }) (record { answer = done 170056 0 0; adjacency = filled (derivedAdjacency m) adjacency; index = filled (derivedIndex m) index })
   told = is ∙ prepared m adjacency index fine (omega arith) (omega arith)
 
   pub rows-derived : a ≡ derivedAdjacency m

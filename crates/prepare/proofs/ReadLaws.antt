@@ -93,11 +93,11 @@ module _ (kind raw count : ℕ) (noted : List ℕ) (pieces : List (List ℕ)) (l
 
   pub row-index-read : slice bucketsAt firstTokensAt row ≡ rowIndex left right rank shift
   row-index-read =
-      ap (slice 582 135751) (row-is ∙ sym (append-assoc before-starts (pieceIndex pieces lookup) (rowIndex left right rank shift)) ∙ ap (λ (l : List ℕ). (before-starts ++ pieceIndex pieces lookup) ++ l) (sym (append-nil (rowIndex left right rank shift))))
-      ∙ part-between (before-starts ++ pieceIndex pieces lookup) (rowIndex left right rank shift) [] 582 135751 (omega (arith, length-append before-starts (pieceIndex pieces lookup), long, length-pieceIndex pieces lookup)) (omega (arith, length-rowIndex left right rank shift))
+      ap (slice 582 168519) (row-is ∙ sym (append-assoc before-starts (pieceIndex pieces lookup) (rowIndex left right rank shift)) ∙ ap (λ (l : List ℕ). (before-starts ++ pieceIndex pieces lookup) ++ l) (sym (append-nil (rowIndex left right rank shift))))
+      ∙ part-between (before-starts ++ pieceIndex pieces lookup) (rowIndex left right rank shift) [] 582 168519 (omega (arith, length-append before-starts (pieceIndex pieces lookup), long, length-pieceIndex pieces lookup)) (omega (arith, length-rowIndex left right rank shift))
 
 -- The words of the token lists stand behind those of the pieces.
-module _ (front : List ℕ) (first second : List (List ℕ)) (front-long : length front ≡ 135751) where
+module _ (front : List ℕ) (first second : List (List ℕ)) (front-long : length front ≡ 168519) where
   abbrev firsts : List ℕ
   firsts = beginnings first 256
 
@@ -106,22 +106,22 @@ module _ (front : List ℕ) (first second : List (List ℕ)) (front-long : lengt
 
   pub first-tokens-read : slice firstTokensAt secondTokensAt (front ++ tokenWords first second) ≡ firsts
   unfolding tokenWords
-  first-tokens-read = part-between front firsts (seconds ++ (longestContent first ∷ [])) 135751 136007 front-long (omega (arith, length-beginnings first 256))
+  first-tokens-read = part-between front firsts (seconds ++ (longestContent first ∷ [])) 168519 168775 front-long (omega (arith, length-beginnings first 256))
 
-  to-second : length (front ++ firsts) ≡ 136007
+  to-second : length (front ++ firsts) ≡ 168775
   to-second = omega (arith, length-append front firsts, length-beginnings first 256)
 
   pub second-tokens-read : slice secondTokensAt longestContentAt (front ++ tokenWords first second) ≡ seconds
   unfolding tokenWords
   second-tokens-read =
-      ap (slice 136007 136263) (sym (append-assoc front firsts (seconds ++ (longestContent first ∷ []))))
-      ∙ part-between (front ++ firsts) seconds (longestContent first ∷ []) 136007 136263 to-second (omega (arith, length-beginnings second 256))
+      ap (slice 168775 169031) (sym (append-assoc front firsts (seconds ++ (longestContent first ∷ []))))
+      ∙ part-between (front ++ firsts) seconds (longestContent first ∷ []) 168775 169031 to-second (omega (arith, length-beginnings second 256))
 
   pub longest-read : getD (front ++ tokenWords first second) longestContentAt 0 ≡ longestContent first
   unfolding tokenWords
   longest-read =
-      ap (λ (l : List ℕ). getD l 136263 0) (sym (append-assoc front firsts (seconds ++ (longestContent first ∷ []))) ∙ sym (append-assoc (front ++ firsts) seconds (longestContent first ∷ [])))
-      ∙ getD-at ((front ++ firsts) ++ seconds) (longestContent first) [] 0 136263 (omega (arith, length-append (front ++ firsts) seconds, to-second, length-beginnings second 256))
+      ap (λ (l : List ℕ). getD l 169031 0) (sym (append-assoc front firsts (seconds ++ (longestContent first ∷ []))) ∙ sym (append-assoc (front ++ firsts) seconds (longestContent first ∷ [])))
+      ∙ getD-at ((front ++ firsts) ++ seconds) (longestContent first) [] 0 169031 (omega (arith, length-append (front ++ firsts) seconds, to-second, length-beginnings second 256))
 
 -- The kind and the raw path of a model, from the index's first words.
 module _ (m : Model) where
@@ -152,13 +152,13 @@ module _ (m : Model) where
   unfolding derivedIndex indexRow
   index-is = refl
 
-  front-long : length front ≡ 135751
+  front-long : length front ≡ 168519
   front-long = length-pieceWords (kindNumber (kindOf m)) (rawPathNumber (rawPath m)) (noting (piecesOf m) (kindOf m) .count) (noting (piecesOf m) (kindOf m) .noted) (piecesOf m) (m .lookup) (m .left) (m .right) (m .rank) all-64
 
-  part-of-front : (from to : ℕ) → to ≤ 135751 → slice from to (derivedIndex m) ≡ slice from to front
+  part-of-front : (from to : ℕ) → to ≤ 168519 → slice from to (derivedIndex m) ≡ slice from to front
   part-of-front from to h = ap (slice from to) index-is ∙ front-part front tokens from to (omega (arith, front-long))
 
-  word-of-front : (at : ℕ) → at < 135751 → getD (derivedIndex m) at 0 ≡ getD front at 0
+  word-of-front : (at : ℕ) → at < 168519 → getD (derivedIndex m) at 0 ≡ getD front at 0
   word-of-front at h = ap (λ (l : List ℕ). getD l at 0) index-is ∙ List·getD-append front tokens 0 at (omega (arith, front-long))
 
   -- The other parts of its index.
@@ -175,16 +175,16 @@ module _ (m : Model) where
   piece-index-at = part-of-front 69 582 (omega arith) ∙ piece-index-read (kindNumber (kindOf m)) (rawPathNumber (rawPath m)) (noting (piecesOf m) (kindOf m) .count) (noting (piecesOf m) (kindOf m) .noted) (piecesOf m) (m .lookup) (m .left) (m .right) (m .rank) all-64
 
   pub row-index-at : slice bucketsAt firstTokensAt (derivedIndex m) ≡ rowIndex (m .left) (m .right) (m .rank) (bucketShift (length (piecesOf m)))
-  row-index-at = part-of-front 582 135751 (omega arith) ∙ row-index-read (kindNumber (kindOf m)) (rawPathNumber (rawPath m)) (noting (piecesOf m) (kindOf m) .count) (noting (piecesOf m) (kindOf m) .noted) (piecesOf m) (m .lookup) (m .left) (m .right) (m .rank) all-64
+  row-index-at = part-of-front 582 168519 (omega arith) ∙ row-index-read (kindNumber (kindOf m)) (rawPathNumber (rawPath m)) (noting (piecesOf m) (kindOf m) .count) (noting (piecesOf m) (kindOf m) .noted) (piecesOf m) (m .lookup) (m .left) (m .right) (m .rank) all-64
 
   pub first-tokens-at : slice firstTokensAt secondTokensAt (derivedIndex m) ≡ beginnings (contents (m .first)) 256
-  first-tokens-at = ap (slice 135751 136007) index-is ∙ first-tokens-read front (contents (m .first)) (contents (m .second)) front-long
+  first-tokens-at = ap (slice 168519 168775) index-is ∙ first-tokens-read front (contents (m .first)) (contents (m .second)) front-long
 
   pub second-tokens-at : slice secondTokensAt longestContentAt (derivedIndex m) ≡ beginnings (contents (m .second)) 256
-  second-tokens-at = ap (slice 136007 136263) index-is ∙ second-tokens-read front (contents (m .first)) (contents (m .second)) front-long
+  second-tokens-at = ap (slice 168775 169031) index-is ∙ second-tokens-read front (contents (m .first)) (contents (m .second)) front-long
 
   pub longest-at : getD (derivedIndex m) longestContentAt 0 ≡ longestContent (contents (m .first))
-  longest-at = ap (λ (l : List ℕ). getD l 136263 0) index-is ∙ longest-read front (contents (m .first)) (contents (m .second)) front-long
+  longest-at = ap (λ (l : List ℕ). getD l 169031 0) index-is ∙ longest-read front (contents (m .first)) (contents (m .second)) front-long
 
   pub index-long : length (derivedIndex m) ≡ indexLength
   unfolding derivedIndex

@@ -10,7 +10,7 @@ abbrev pub adjacencyLength : ℕ
 adjacencyLength = 1024
 
 abbrev pub indexLength : ℕ
-indexLength = 136264
+indexLength = 169032
 
 -- Where the parts of the index begin.
 abbrev pub kindAt : ℕ
@@ -43,17 +43,20 @@ bucketsAt = 582
 abbrev pub pairsAt : ℕ
 pairsAt = 4679
 
+abbrev pub secondPairsAt : ℕ
+secondPairsAt = 135751
+
 abbrev pub firstTokensAt : ℕ
-firstTokensAt = 135751
+firstTokensAt = 168519
 
 abbrev pub secondTokensAt : ℕ
-secondTokensAt = 136007
+secondTokensAt = 168775
 
 abbrev pub longestContentAt : ℕ
-longestContentAt = 136263
+longestContentAt = 169031
 
 -- The kind, the raw path, how many crossings are noted and 64 words of them, the mark's id, the shift of the buckets, where first bytes
--- begin, the ids of single bytes, where buckets begin, and the pair table.
+-- begin, the ids of single bytes, where buckets begin, and the two pair tables.
 unfoldable pub pieceWords : ℕ → ℕ → ℕ → List ℕ → List (List ℕ) → List ℕ → List ℕ → List ℕ → List ℕ → List ℕ
 pieceWords kind rawPath count noted pieces lookup left right rank =
     let shift = bucketShift (length pieces) in

@@ -21,7 +21,7 @@ ghost use Rattle.prepare.specs.Prepare.{PrepareOutcome, prepareOutcome};
 // The lengths of the two rows.
 pub const ADJACENCY_LEN: usize = 1024;
 
-pub const INDEX_LEN: usize = 136264;
+pub const INDEX_LEN: usize = 169032;
 
 // Where the parts of the index begin.
 pub const KIND_AT: usize = 0;
@@ -44,11 +44,13 @@ pub const BUCKETS_AT: usize = 582;
 
 pub const PAIRS_AT: usize = 4679;
 
-pub const FIRST_TOKENS_AT: usize = 135751;
+pub const SECOND_PAIRS_AT: usize = 135751;
 
-pub const SECOND_TOKENS_AT: usize = 136007;
+pub const FIRST_TOKENS_AT: usize = 168519;
 
-pub const LONGEST_AT: usize = 136263;
+pub const SECOND_TOKENS_AT: usize = 168775;
+
+pub const LONGEST_AT: usize = 169031;
 
 // `prepare` on a model that `model::check` accepts.
 pub fn prepare_checked(

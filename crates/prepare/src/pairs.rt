@@ -1,14 +1,19 @@
-// The pair table: for most pairs of ids the word of their slot names their row.
+// The pair tables: for nearly every pair of ids the word of its slot in one of them names its row.
+use index::named_row;
 use index::pair_slot;
+use index::second_slot;
 use model::clear::clear_words;
 use model::tables::number_at;
 use model::tables::wide;
 ghost use mathlib.Core.Path.{_≡_};
-ghost use Prim.Native.Nat.{_≤_, _<_};
-ghost use lib.ListN.{length};
-ghost use Rattle.index.specs.Index.{slotCount, pairWords};
+ghost use mathlib.Core.List.{_++_};
+ghost use Prim.Native.Nat.{_+_, _≤_, _<_};
+ghost use lib.ListN.{length, take};
+ghost use Rattle.index.specs.Index.{slotCount, secondSlotCount, pairWords, secondWords, pairTables};
 ghost use Rattle.prepare.specs.inner.Pairs.{wordWith};
 
+// How many slots the first table has.
+const SLOTS: usize = crate::SECOND_PAIRS_AT - crate::PAIRS_AT;
 // What a word has more where several rows share its slot.
 const SHARED: u32 = 2147483648;
 
@@ -28,8 +33,8 @@ fn word_with(rank: &[u32], word: u32, i: usize) -> u32
     named + SHARED
 }
 
-// The words of all slots: a walk over the rows notes each in its own.
-pub fn fill_pairs(left: &[u32], right: &[u32], rank: &[u32], words: &mut [u32])
+// The words of the first table: a walk over the rows notes each in its slot.
+fn fill_first(left: &[u32], right: &[u32], rank: &[u32], words: &mut [u32])
     requires { ⌜ length (now left) ≤ 1048576 ⌝ }
     requires { ⌜ length (now words) ≡ slotCount ⌝ }
     ensures { λ _. ⌜ now (words .exit) ≡ pairWords (now (left .entry)) (now (right .entry)) (now (rank .entry)) ⌝ }
@@ -41,4 +46,34 @@ pub fn fill_pairs(left: &[u32], right: &[u32], rank: &[u32], words: &mut [u32])
         words[slot] = word_with(rank, words[slot], i);
         i += 1;
     }
+}
+
+// The words of the second table, behind those of the first: the same for the rows that the first does not name.
+fn fill_second(left: &[u32], right: &[u32], rank: &[u32], words: &mut [u32])
+    requires { ⌜ length (now left) ≤ 1048576 ⌝ }
+    requires { ⌜ length (now words) ≡ slotCount + secondSlotCount ⌝ }
+    ensures { λ _. ⌜ now (words .exit) ≡ take slotCount (now (words .entry)) ++ secondWords (now (left .entry)) (now (right .entry)) (now (rank .entry)) (take slotCount (now (words .entry))) ⌝ }
+{
+    clear_words(words, SLOTS);
+    let mut i = 0;
+    while i < left.len() {
+        let r = number_at(right, i);
+        if named_row(words[pair_slot(left[i], r)]) == i {
+            i += 1;
+            continue;
+        }
+        let slot = SLOTS + second_slot(left[i], r);
+        words[slot] = word_with(rank, words[slot], i);
+        i += 1;
+    }
+}
+
+// Both tables.
+pub fn fill_pairs(left: &[u32], right: &[u32], rank: &[u32], words: &mut [u32])
+    requires { ⌜ length (now left) ≤ 1048576 ⌝ }
+    requires { ⌜ length (now words) ≡ slotCount + secondSlotCount ⌝ }
+    ensures { λ _. ⌜ now (words .exit) ≡ pairTables (now (left .entry)) (now (right .entry)) (now (rank .entry)) ⌝ }
+{
+    fill_first(left, right, rank, &mut words[0..SLOTS]);
+    fill_second(left, right, rank, words);
 }

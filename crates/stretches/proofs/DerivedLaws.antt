@@ -88,7 +88,7 @@ module _ (m : Model) (fine : checkNumber m ≡ 0) where
 
   pub rows-derived : rowsIn (tablesOf m) ≡ rowBy m ok
   unfolding rowsIn
-  rows-derived = ap₂ (rowIn (m .left) (m .right) (m .result) (m .rank)) (read 582 135751 (row-index-at m)) (shift-at m)
+  rows-derived = ap₂ (rowIn (m .left) (m .right) (m .result) (m .rank)) (read 582 168519 (row-index-at m)) (shift-at m)
 
   pub cuts-derived : (raw : Bool) (bytes : List ℕ) → cutsIn (tablesOf m) raw bytes ≡ cutsBy m fine raw bytes
   unfolding cutsIn derivedAdjacency piecesOf

@@ -115,7 +115,7 @@ unfolding Chars.charForms Chars.charWidth Chars.chars Chars.isChar Chars.valid C
     Units.spanned Units.markCuts Units.punctuation Units.holdsPair Units.byteBefore Units.punctuationCuts Units.cutBy Units.cut Units.units
     Adjacency.bits Adjacency.adjacencyWord Adjacency.adjacency
     Derived.placesWithin Derived.placesIn Derived.crossingPlaces Derived.notedOf Derived.placeWords Derived.notedWords Derived.noting
-    Index.firstByteStart Index.firstBytes Index.keyId Index.markId Index.byteId Index.byteIds Index.pieceIndex Index.bucketShift Index.bucketStart Index.buckets Index.pairSlot Index.slotRows Index.slotWord Index.pairWords Index.rowIndex
+    Index.firstByteStart Index.firstBytes Index.keyId Index.markId Index.byteId Index.byteIds Index.pieceIndex Index.bucketShift Index.bucketStart Index.buckets Index.pairSlot Index.secondSlot Index.slotRows Index.slotWord Index.tableWords Index.pairWords Index.unnamed Index.secondWords Index.pairTables Index.rowIndex
     Start.vocabularyOf Start.ownId Start.fallbackIds Start.lacksByte Start.startingIdsBy Start.startingIds Start.isDroppedBy Start.isDropped Start.asMark Start.unitChars Start.withVirtualMark
     Merge.candidates Merge.nextMerge Merge.mergedAt Merge.merged
     Matches.end Matches.longestAt Matches.matches

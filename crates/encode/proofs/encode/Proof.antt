@@ -69,7 +69,7 @@ encode-prepared-requires c κs =
     let p = c .before .before .before .before .before .before .before in
     let e = p .before .before .before in
     let m = lent (start (entered e)) .model in
-    (fine e, (rows-derived m (fine e) _ _ (length-replicate {A = ℕ} 1024 0) (length-replicate {A = ℕ} 136264 0) (p .prepare-checked .ensures), index-derived m (fine e) _ _ (length-replicate {A = ℕ} 1024 0) (length-replicate {A = ℕ} 136264 0) (p .prepare-checked .ensures)))
+    (fine e, (rows-derived m (fine e) _ _ (length-replicate {A = ℕ} 1024 0) (length-replicate {A = ℕ} 169032 0) (p .prepare-checked .ensures), index-derived m (fine e) _ _ (length-replicate {A = ℕ} 1024 0) (length-replicate {A = ℕ} 169032 0) (p .prepare-checked .ensures)))
 
 same-length : tie.Need-same-length
 same-length c = search needs

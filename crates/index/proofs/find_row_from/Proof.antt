@@ -1,7 +1,7 @@
--- `index::find_row_from` meets its contract.
+-- `index::find_row_from` meets its contract: by what the pair's word tells.
+use mathlib.Core.Path.{_≡_, sym}
 use borrow.Author.Needs.{needs}
-use borrow.Author.Tests.{lt-ltb, le-ltb, eq-eqb, ne-eqb}
-use Rattle.index.specs.inner.Find.{pairWord, rowFrom}
+use Rattle.index.specs.inner.Find.{pairWord, told, rowFrom}
 use Rattle.index.proofs.find_row_from.Statement.{statement}
 use Rattle.index.proofs.find_row_from.Tie as tie
 
@@ -14,53 +14,38 @@ add-number-at c = search needs
 number-at-requires : tie.Need-number-at-requires
 number-at-requires c κs = search needs
 
+tell-requires : tie.Need-tell-requires
+tell-requires c κs = search needs
+
+-- what the word in the first table tells
+first-told : (c : tie.After-tell) → (let a = c .before .before .before .before .before .before .args in
+    told (a .left .now) (a .right .now) (pairWord (a .row-index .now) (a .l) (a .r)) (a .l) (a .r) ≡ c .tell .result)
+unfolding pairWord
+first-told c = rw (← c .before .before .pair-slot .ensures .0, ← c .before .number-at .ensures) (sym (c .tell .ensures))
+
+enum-known-row : tie.Need-enum-known-row
+enum-known-row c = search needs
+
+enum-told : tie.Need-enum-told
+enum-told c = search needs
+
+enum-told-2 : tie.Need-enum-told-2
+enum-told-2 c = search needs
+
+find-row-beyond-requires : tie.Need-find-row-beyond-requires
+find-row-beyond-requires c κs = search needs
+
 returns : tie.Need-returns
-unfolding rowFrom pairWord
-returns c =
-    let read = c .before in
-    rw (← read .before .pair-slot .ensures .0, ← read .number-at .ensures, eq-eqb _ _ (c .if1 .taken))
-
-named-row-requires : tie.Need-named-row-requires
-named-row-requires c κs = search needs
-
-row-has-requires : tie.Need-row-has-requires
-row-has-requires c κs = search needs
+unfolding rowFrom
+returns c = rw (first-told (c .before .before .before), c .before .row .given .1)
 
 returns-2 : tie.Need-returns-2
-unfolding rowFrom pairWord
-returns-2 c =
-    let named = c .before .before in
-    let read = named .before .before in
-    rw (← read .before .pair-slot .ensures .0, ← read .number-at .ensures, ne-eqb _ _ (named .before .if1 .left))
-    (rw (← named .named-row .ensures, ← c .before .row-has .ensures, c .if2 .taken))
-
-wide-requires : tie.Need-wide-requires
-wide-requires c κs = search needs
+unfolding rowFrom
+returns-2 c = rw (first-told (c .before .before), c .enum-told .given .1)
 
 returns-3 : tie.Need-returns-3
-unfolding rowFrom pairWord
-returns-3 c =
-    let wide = c .before in
-    let other = wide .before in
-    let named = other .before .before in
-    let read = named .before .before in
-    rw (← read .before .pair-slot .ensures .0, ← read .number-at .ensures, ne-eqb _ _ (named .before .if1 .left))
-    (rw (← named .named-row .ensures, ← other .before .row-has .ensures, other .if2 .left, ← wide .wide .ensures .0, lt-ltb _ _ (c .if3 .taken)))
-
-find-row-in-bucket-requires : tie.Need-find-row-in-bucket-requires
-find-row-in-bucket-requires c κs = search needs
-
-returns-4 : tie.Need-returns-4
-unfolding rowFrom pairWord
-returns-4 c =
-    let left = c .before in
-    let wide = left .before in
-    let other = wide .before in
-    let named = other .before .before in
-    let read = named .before .before in
-    rw (← read .before .pair-slot .ensures .0, ← read .number-at .ensures, ne-eqb _ _ (named .before .if1 .left))
-    (rw (← named .named-row .ensures, ← other .before .row-has .ensures, other .if2 .left, ← wide .wide .ensures .0, le-ltb _ _ (left .if3 .left))
-    (c .find-row-in-bucket .ensures))
+unfolding rowFrom
+returns-3 c = rw (first-told (c .before .before .before), c .before .enum-told2 .given .1) (c .find-row-beyond .ensures)
 
 pub find-row-from-spec : {M : Type 1} → statement M
 find-row-from-spec =
@@ -69,11 +54,11 @@ find-row-from-spec =
     pair-slot-requires
     add-number-at
     number-at-requires
+    tell-requires
+    enum-known-row
+    enum-told
+    enum-told-2
+    find-row-beyond-requires
     returns
-    named-row-requires
-    row-has-requires
     returns-2
-    wide-requires
-    returns-3
-    find-row-in-bucket-requires
-    returns-4)
+    returns-3)

@@ -39,7 +39,7 @@ ok s = accepted (lent s) (s .pre)
 refused-rows : (s : tie.Start) (answer : Answer) → answer ≡ refused 12 0 → length (s .args .adjacency .now) < 1024 → kept s answer ≡ wanted s
 refused-rows s answer e h = ap (kept s) e ∙ sym (short-rows (lent s) (s .args .adjacency .now) (s .args .index .now) (s .pre) h)
 
-refused-index : (s : tie.Start) (answer : Answer) → answer ≡ refused 12 0 → 1024 ≤ length (s .args .adjacency .now) → length (s .args .index .now) < 136264 → kept s answer ≡ wanted s
+refused-index : (s : tie.Start) (answer : Answer) → answer ≡ refused 12 0 → 1024 ≤ length (s .args .adjacency .now) → length (s .args .index .now) < 169032 → kept s answer ≡ wanted s
 refused-index s answer e h k = ap (kept s) e ∙ sym (short-index (lent s) (s .args .adjacency .now) (s .args .index .now) (s .pre) h k)
 
 refused-requires : tie.Need-refused-requires

@@ -81,7 +81,7 @@ all-lines-requires c κs =
     let p = prepared c in
     let e = p .before .before .before in
     let m = lent (start (entered e)) in
-    record { accepted = fine e; rows = rows-derived m (fine e) _ _ (length-replicate {A = ℕ} 1024 0) (length-replicate {A = ℕ} 136264 0) (p .prepare-checked .ensures); words = index-derived m (fine e) _ _ (length-replicate {A = ℕ} 1024 0) (length-replicate {A = ℕ} 136264 0) (p .prepare-checked .ensures) }
+    record { accepted = fine e; rows = rows-derived m (fine e) _ _ (length-replicate {A = ℕ} 1024 0) (length-replicate {A = ℕ} 169032 0) (p .prepare-checked .ensures); words = index-derived m (fine e) _ _ (length-replicate {A = ℕ} 1024 0) (length-replicate {A = ℕ} 169032 0) (p .prepare-checked .ensures) }
 
 end-requires : tie.Need-end-requires
 end-requires c κs = search needs

@@ -6,7 +6,7 @@ use Prim.Native.Nat.{ℕ, _≤_}
 use native.Mathlib.Omega.{arith}
 use borrow.Author.Needs.{needs}
 use lib.Dec.{eqb}
-use lib.ListN.{length, take, drop, length-append}
+use lib.ListN.{length, take}
 use Rattle.utf8.specs.Lists.{isEmpty}
 use Rattle.utf8.proofs.Places.{empty-by-length}
 use Rattle.model.specs.Answers.{filled}
@@ -65,15 +65,12 @@ module _ (c : tie.After-fill-index) where
   row =
       indexRow (numbered .before .kind-number .result) (numbered .raw-path-number .result) (filled-from .word-split .result .count) (filled-from .word-split .last .1 .1 .1 .0) (pieces at-start) (at-start .args .lookup .now) (at-start .args .left .now) (at-start .args .right .now) (at-start .args .rank .now) (first at-start) (second at-start)
 
-  row-long : length row ≡ 136264
+  row-long : length row ≡ 169032
   row-long =
       length-index (numbered .before .kind-number .result) (numbered .raw-path-number .result) (filled-from .word-split .result .count) (filled-from .word-split .last .1 .1 .1 .0) (pieces at-start) (at-start .args .lookup .now) (at-start .args .left .now) (at-start .args .right .now) (at-start .args .rank .now) (first at-start) (second at-start) (long filled-from)
 
   fits : length row ≤ length (at-start .args .out .now)
   fits = omega (arith, row-long, at-start .pre .1 .1 .1)
-
-  room : 136264 ≤ length (c .fill-index .last .1 .1 .1 .1 .1 .1 .1 .1 .1 .1 .1 .1 .1 .1 .0)
-  room = omega (arith, row-long, ap length (c .fill-index .ensures), length-append row (drop 136264 (at-start .args .out .now)))
 
   -- whether there are tokens in the second list
   empty-is : eqb (numbered .before .before .before .string-count .result) 0 ≡ isEmpty (second at-start)
@@ -130,7 +127,7 @@ returns : tie.Need-returns
 returns c =
     let f = c .before .before .before .before .before .before in
     let s = start (filled-from f) in
-    cleared-behind (row f) (s .args .out .now) (fits f) (f .fill-index .last .1 .1 .1 .1 .1 .1 .1 .1 .1 .1 .1 .1 .1 .1 .0) (c .before .before .clear-words .last .0) 136264 (row-long f) (f .fill-index .ensures) (c .before .before .clear-words .ensures)
+    cleared-behind (row f) (s .args .out .now) (fits f) (f .fill-index .last .1 .1 .1 .1 .1 .1 .1 .1 .1 .1 .1 .1 .1 .1 .0) (c .before .before .clear-words .last .0) 169032 (row-long f) (f .fill-index .ensures) (c .before .before .clear-words .ensures)
     ∙ ap (λ (words : List ℕ). filled words (s .args .out .now)) (row-is f)
 
 pub derive-index-spec : {M : Type 1} → statement M

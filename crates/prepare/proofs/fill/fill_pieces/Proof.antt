@@ -9,7 +9,7 @@ use lib.Seq.{length-take-le}
 use Rattle.model.specs.Model.{strings}
 use Rattle.model.specs.Mark.{mark}
 use Rattle.model.proofs.StringLaws.{length-strings}
-use Rattle.index.specs.Index.{markId, bucketShift, pairWords}
+use Rattle.index.specs.Index.{markId, bucketShift, pairTables}
 use Rattle.prepare.specs.Layout.{pieceWords}
 use Rattle.prepare.proofs.LayoutLaws.{lent-back, crossed-long, started-long, bucketed-long, last-long, pieces-filled}
 use Rattle.prepare.proofs.fill.fill_pieces.Statement.{statement}
@@ -48,7 +48,7 @@ shift-is c =
     ∙ ap bucketShift (c .before .before .before .string-count .ensures ∙ sym (length-strings (start c .args .piece-bytes .now) (start c .args .piece-offsets .now)))
 
 -- there is room
-room : (s : tie.Start) → 135751 ≤ length (s .args .words .now)
+room : (s : tie.Start) → 168519 ≤ length (s .args .words .now)
 room s = s .pre .1 .1 .1 .1
 
 -- the buffer after each call is as long as it was
@@ -98,12 +98,12 @@ module _ (c : tie.After-fill-pairs) where
 
   -- the buffer with the pair table
   abbrev last : List ℕ
-  last = take 4679 (bucketed before) ++ (c .fill-pairs .last .1 .1 .1 .0 ++ drop 131072 (drop 4679 (bucketed before)))
+  last = take 4679 (bucketed before) ++ (c .fill-pairs .last .1 .1 .1 .0 ++ drop 163840 (drop 4679 (bucketed before)))
 
-  last-is : last ≡ take 4679 (bucketed before) ++ pairWords (entry .args .left .now) (entry .args .right .now) (entry .args .rank .now) ++ drop 135751 (bucketed before)
+  last-is : last ≡ take 4679 (bucketed before) ++ pairTables (entry .args .left .now) (entry .args .right .now) (entry .args .rank .now) ++ drop 168519 (bucketed before)
   last-is =
-      lent-back 4679 131072 135751 (bucketed before) (c .fill-pairs .last .1 .1 .1 .0)
-      (λ (n : ℕ). pairWords (entry .args .left .now) (entry .args .right .now) (entry .args .rank .now)) refl (omega (arith, long-3 before, room entry)) (c .fill-pairs .ensures)
+      lent-back 4679 163840 168519 (bucketed before) (c .fill-pairs .last .1 .1 .1 .0)
+      (λ (n : ℕ). pairTables (entry .args .left .now) (entry .args .right .now) (entry .args .rank .now)) refl (omega (arith, long-3 before, room entry)) (c .fill-pairs .ensures)
 
   long-4 : length last ≡ length (entry .args .words .now)
   long-4 =
@@ -115,7 +115,7 @@ module _ (c : tie.After-fill-pairs) where
 
   whole :
       last
-      ≡ pieceWords (entry .args .kind) (entry .args .raw-path) (entry .args .count) (entry .args .noted .now) (pieces entry) (entry .args .lookup .now) (entry .args .left .now) (entry .args .right .now) (entry .args .rank .now) ++ drop 135751 (entry .args .words .now)
+      ≡ pieceWords (entry .args .kind) (entry .args .raw-path) (entry .args .count) (entry .args .noted .now) (pieces entry) (entry .args .lookup .now) (entry .args .left .now) (entry .args .right .now) (entry .args .rank .now) ++ drop 168519 (entry .args .words .now)
   whole =
       let s = entry in
       let t = started before in
@@ -164,7 +164,7 @@ fill-pairs-requires : tie.Need-fill-pairs-requires
 fill-pairs-requires c κs =
     let b = c .before .before .before in
     let s = at-start b in
-    (s .pre .1 .1 .0, length-take-le 131072 (drop 4679 (bucketed b)) (omega (arith, length-drop 4679 (bucketed b), long-3 b, room s)))
+    (s .pre .1 .1 .0, length-take-le 163840 (drop 4679 (bucketed b)) (omega (arith, length-drop 4679 (bucketed b), long-3 b, room s)))
 
 same-length : tie.Need-same-length
 same-length c = long-4 (c .before .before)

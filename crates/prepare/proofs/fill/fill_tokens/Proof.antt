@@ -29,10 +29,10 @@ second c = strings (start c .args .second .now) (start c .args .second-offsets .
 -- the buffer with the first list's words
 module _ (c : tie.After-first-bytes) where
   abbrev one : List ℕ
-  one = take 135751 (words c) ++ (c .first-bytes .last .1 .1 .0 ++ drop 256 (drop 135751 (words c)))
+  one = take 168519 (words c) ++ (c .first-bytes .last .1 .1 .0 ++ drop 256 (drop 168519 (words c)))
 
-  one-is : one ≡ take 135751 (words c) ++ beginnings (first c) 256 ++ drop 136007 (words c)
-  one-is = lent-back 135751 256 136007 (words c) (c .first-bytes .last .1 .1 .0) (beginnings (first c)) refl (omega (arith, start c .pre)) (c .first-bytes .ensures)
+  one-is : one ≡ take 168519 (words c) ++ beginnings (first c) 256 ++ drop 168775 (words c)
+  one-is = lent-back 168519 256 168775 (words c) (c .first-bytes .last .1 .1 .0) (beginnings (first c)) refl (omega (arith, start c .pre)) (c .first-bytes .ensures)
 
   one-same : length one ≡ length (words c)
   one-same = one-long (first c) (second c) (words c) (start c .pre) one one-is
@@ -43,10 +43,10 @@ module _ (c : tie.After-first-bytes2) where
   before = c .before .before .before .before
 
   abbrev two : List ℕ
-  two = take 136007 (one before) ++ (c .first-bytes2 .last .1 .1 .0 ++ drop 256 (drop 136007 (one before)))
+  two = take 168775 (one before) ++ (c .first-bytes2 .last .1 .1 .0 ++ drop 256 (drop 168775 (one before)))
 
-  two-is : two ≡ take 136007 (one before) ++ beginnings (second before) 256 ++ drop 136263 (one before)
-  two-is = lent-back 136007 256 136263 (one before) (c .first-bytes2 .last .1 .1 .0) (beginnings (second before)) refl (omega (arith, one-same before, start before .pre)) (c .first-bytes2 .ensures)
+  two-is : two ≡ take 168775 (one before) ++ beginnings (second before) 256 ++ drop 169031 (one before)
+  two-is = lent-back 168775 256 169031 (one before) (c .first-bytes2 .last .1 .1 .0) (beginnings (second before)) refl (omega (arith, one-same before, start before .pre)) (c .first-bytes2 .ensures)
 
   two-same : length two ≡ length (words before)
   two-same = two-long (first before) (second before) (words before) (start before .pre) (one before) (one-is before) two two-is
@@ -54,7 +54,7 @@ module _ (c : tie.After-first-bytes2) where
   abbrev longest : ℕ
   longest = before .before .before .longest-content .result
 
-  whole : set two 136263 longest ≡ take 135751 (words before) ++ tokenWords (first before) (second before) ++ drop 136264 (words before)
+  whole : set two 169031 longest ≡ take 168519 (words before) ++ tokenWords (first before) (second before) ++ drop 169032 (words before)
   whole = tokens-filled (first before) (second before) (words before) (start before .pre) (one before) (one-is before) two two-is longest (before .before .before .longest-content .ensures)
 
 longest-content-requires : tie.Need-longest-content-requires
@@ -88,7 +88,7 @@ slice-write-words : tie.Need-slice-write-words
 slice-write-words c = search needs
 
 same-length : tie.Need-same-length
-same-length c = length-set (two (c .before .before)) 136263 (longest (c .before .before)) ∙ two-same (c .before .before)
+same-length c = length-set (two (c .before .before)) 169031 (longest (c .before .before)) ∙ two-same (c .before .before)
 
 returns : tie.Need-returns
 returns c = whole (c .before .before)

@@ -1,106 +1,80 @@
--- `prepare::pairs::fill_pairs` meets its contract. The loop's invariant: the words are those of the table of the first `i` rows.
+-- `prepare::pairs::fill_pairs` meets its contract: the second table is written behind the first.
 use mathlib.Core.Path.{_≡_, ap, _∙_}
-use Prim.Native.Nat.{_+_, _-_, _≤_}
+use mathlib.Core.List.{List, _++_}
+use Prim.Native.Nat.{ℕ}
 use native.Mathlib.Omega.{arith}
 use borrow.Author.Needs.{needs}
-use lib.ListN.{length, getD}
-use Rattle.index.specs.Index.{pairSlot}
-use Rattle.prepare.proofs.PairLaws.{tableOf, length-table, table-cleared, table-next, table-ended}
+use lib.ListN.{length, take, drop, length-append, length-drop}
+use lib.Seq.{length-take-le, take-at}
+use Rattle.index.specs.Index.{pairWords, secondWords, pairTables}
+use Rattle.index.proofs.PairLaws.{length-pairs}
 use Rattle.prepare.proofs.pairs.fill_pairs.Statement.{statement}
 use Rattle.prepare.proofs.pairs.fill_pairs.Tie as tie
 
-abbrev Inv-loop : tie.InvT-loop
-Inv-loop left right rank words₀ i₀ words i = (i ≤ length left) × (length words ≡ 131072) × (words ≡ tableOf left right rank i 131072)
+sub-fill-first : tie.Need-sub-fill-first
+sub-fill-first c = search needs
 
-abbrev μ-loop : tie.MeasureT-loop
-μ-loop left right rank words₀ i₀ words i = length left - i
+part-fill-first-start : tie.Need-part-fill-first-start
+part-fill-first-start c = search needs
 
--- the start of the call, from where the loop stands
-abbrev start : tie.At-loop Inv-loop μ-loop → tie.Start Inv-loop μ-loop
-start t = t .before .before .before .before .before .before .before .before .before
+part-fill-first-end : tie.Need-part-fill-first-end
+part-fill-first-end c = omega (arith, c .before .before .before .before .pre .1)
 
-clear-words-requires : tie.Need-clear-words-requires Inv-loop μ-loop
-clear-words-requires c κs = search needs
+fill-first-requires : tie.Need-fill-first-requires
+fill-first-requires c κs =
+    let s = c .before .before .before .before .before in
+    (s .pre .0, length-take-le 131072 (s .args .words .now) (omega (arith, s .pre .1)))
 
-loop-holds : tie.Need-loop-holds Inv-loop μ-loop
-loop-holds c =
-    let s = c .before .before .before .before .before .before .before .before in
-    let cleared = c .before .before .clear-words in
-    let table = table-cleared (s .args .left .now) (s .args .right .now) (s .args .rank .now) 131072 (s .args .words .now) (cleared .last .0) (s .pre .1) (cleared .ensures) in
-    (search needs, ap length table ∙ length-table (s .args .left .now) (s .args .right .now) (s .args .rank .now) 0 131072, table)
+-- ---- from where the first table is filled
 
-mul-pair-slot : tie.Need-mul-pair-slot Inv-loop μ-loop
-mul-pair-slot c = search needs
+module _ (c : tie.After-fill-first) where
+  abbrev start : tie.Start
+  start = c .before .before .before .before .before .before
 
-shared-slice-read-pair-slot : tie.Need-shared-slice-read-pair-slot Inv-loop μ-loop
-shared-slice-read-pair-slot c = search needs
+  abbrev first : List ℕ
+  first = c .fill-first .last .1 .1 .1 .0
 
-number-at-requires : tie.Need-number-at-requires Inv-loop μ-loop
-number-at-requires c κs = search needs
+  abbrev words : List ℕ
+  words = pairWords (start .args .left .now) (start .args .right .now) (start .args .rank .now)
 
-pair-slot-requires : tie.Need-pair-slot-requires Inv-loop μ-loop
-pair-slot-requires c κs = search needs
+  -- the buffer, with the first table in front
+  abbrev buffer : List ℕ
+  buffer = first ++ drop 131072 (start .args .words .now)
 
-mul-word-with : tie.Need-mul-word-with Inv-loop μ-loop
-mul-word-with c = search needs
+  first-long : length first ≡ 131072
+  first-long = ap length (c .fill-first .ensures) ∙ length-pairs (start .args .left .now) (start .args .right .now) (start .args .rank .now)
 
-slice-read-word-with : tie.Need-slice-read-word-with Inv-loop μ-loop
-slice-read-word-with c = search needs
+  buffer-long : length buffer ≡ 163840
+  buffer-long = omega (arith, length-append first (drop 131072 (start .args .words .now)), first-long, length-drop 131072 (start .args .words .now), start .pre .1)
 
-word-with-requires : tie.Need-word-with-requires Inv-loop μ-loop
-word-with-requires c κs = search needs
+  front-is : take 131072 buffer ≡ words
+  front-is = take-at first (drop 131072 (start .args .words .now)) 131072 first-long ∙ c .fill-first .ensures
 
-mul-words : tie.Need-mul-words Inv-loop μ-loop
-mul-words c = search needs
+fill-second-requires : tie.Need-fill-second-requires
+fill-second-requires c κs =
+    let f = c .before .before .before in
+    (start f .pre .0, buffer-long f)
 
-slice-write-words : tie.Need-slice-write-words Inv-loop μ-loop
-slice-write-words c = search needs
-
-add-i : tie.Need-add-i Inv-loop μ-loop
-add-i c = search needs
-
-loop-less : tie.Need-loop-less Inv-loop μ-loop
-loop-less c = search needs
-
-loop-again : tie.Need-loop-again Inv-loop μ-loop
-loop-again c =
-    let slot = c .before .before in
-    let t = slot .before .before .before .before in
-    let l = t .loop in
-    let s = start t in
-    let next =
-    table-next (s .args .left .now) (s .args .right .now) (s .args .rank .now) (l .i) 131072 (l .words) (l .inv .2) (slot .pair-slot .result) (c .word-with .result) (omega (arith, s .pre .0, slot .before .before .before .loop-test .taken))
-    (slot .pair-slot .ensures .1) (slot .pair-slot .ensures .0 ∙ ap (pairSlot (getD (s .args .left .now) (l .i) 0)) (slot .before .number-at .ensures)) (c .word-with .ensures) in
-    (search needs, ap length next ∙ length-table (s .args .left .now) (s .args .right .now) (s .args .rank .now) (l .i + 1) 131072, next)
-
-same-length : tie.Need-same-length Inv-loop μ-loop
+same-length : tie.Need-same-length
 same-length c = search needs
 
-returns : tie.Need-returns Inv-loop μ-loop
+returns : tie.Need-returns
+unfolding pairTables
 returns c =
-    let t = c .before in
-    let s = start t in
-    t .loop .inv .2 ∙ table-ended (s .args .left .now) (s .args .right .now) (s .args .rank .now) (t .loop .i) (omega (arith, t .loop .inv .0, c .loop-test .left))
+    let filled = c .before .before in
+    let f = filled .before .before .before .before in
+    let s = start f in
+    filled .fill-second .ensures
+    ∙ ap (λ (w : List ℕ). w ++ secondWords (s .args .left .now) (s .args .right .now) (s .args .rank .now) w) (front-is f)
 
 pub fill-pairs-spec : {M : Type 1} → statement M
 fill-pairs-spec =
     tie.close
     (tie.spec
-    Inv-loop
-    μ-loop
-    clear-words-requires
-    loop-holds
-    mul-pair-slot
-    shared-slice-read-pair-slot
-    number-at-requires
-    pair-slot-requires
-    mul-word-with
-    slice-read-word-with
-    word-with-requires
-    mul-words
-    slice-write-words
-    add-i
-    loop-less
-    loop-again
+    sub-fill-first
+    part-fill-first-start
+    part-fill-first-end
+    fill-first-requires
+    fill-second-requires
     same-length
     returns)
