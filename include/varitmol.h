@@ -15,7 +15,7 @@
  * THE LIBRARY is libvaritmol.a, for x86-64 Linux and its C calling convention. Of the C library it needs memcpy and memset.
  * A call keeps nothing, allocates nothing and reads nothing but its arguments, so any number of threads may use one model. Of stack
  * varitmol_encode and varitmol_fragments take some 680 KiB, as they hold there what varitmol_prepare derives; varitmol_encode and
- * varitmol_encode_prepared take 120 KiB more, for units and pairs that they remember; all others take 10 KiB or less.
+ * varitmol_encode_prepared take 200 KiB more, for units and pairs that they remember; all others take 10 KiB or less.
  *
  * WHAT A CALLER ANSWERS FOR. A slice is a pointer and a length in elements. In the flat functions a pointer is aligned for its type and not
  * NULL, even for a slice of no elements; the calls that take the struct also take NULL where the length is 0. A slice that is not const

@@ -23,7 +23,9 @@ const NO_KEY: usize = 9223372036854775808;
 // How many ids units have for which there is room.
 pub(crate) const SHORT: usize = 32;
 
-pub(crate) const LONG: usize = 4096;
+pub(crate) const MIDDLE: usize = 256;
+
+pub(crate) const LONG: usize = 4608;
 
 // The row of a pair and its rank.
 fn pair_key(
@@ -223,6 +225,35 @@ pub(crate) fn merge_short(
     )
 }
 
+// For one of middle length.
+pub(crate) fn merge_middle(
+    left: &[u32],
+    right: &[u32],
+    result: &[u32],
+    rank: &[u32],
+    row_index: &[u32],
+    shift: u32,
+    ids: &mut [u32],
+    count: usize,
+) -> usize
+    requires { ⌜ length (now left) ≤ rowSpan ⌝ }
+    requires { ⌜ (count ≤ length (now ids)) × (count ≤ 256) ⌝ }
+    ensures { λ n. ⌜ _≡_ {A = Merged} (record { count = n; ids = now (ids .exit) }) (mergedFront (rowIn (now (left .entry)) (now (right .entry)) (now (result .entry)) (now (rank .entry)) (now («row_index» .entry)) shift) count (now (ids .entry))) ⌝ }
+{
+    let mut keys = [NO_KEY; MIDDLE];
+    merge_kept(
+        left,
+        right,
+        result,
+        rank,
+        row_index,
+        shift,
+        ids,
+        count,
+        &mut keys,
+    )
+}
+
 // And for a long one.
 pub(crate) fn merge_long(
     left: &[u32],
@@ -235,7 +266,7 @@ pub(crate) fn merge_long(
     count: usize,
 ) -> usize
     requires { ⌜ length (now left) ≤ rowSpan ⌝ }
-    requires { ⌜ (count ≤ length (now ids)) × (count ≤ 4096) ⌝ }
+    requires { ⌜ (count ≤ length (now ids)) × (count ≤ 4608) ⌝ }
     ensures { λ n. ⌜ _≡_ {A = Merged} (record { count = n; ids = now (ids .exit) }) (mergedFront (rowIn (now (left .entry)) (now (right .entry)) (now (result .entry)) (now (rank .entry)) (now («row_index» .entry)) shift) count (now (ids .entry))) ⌝ }
 {
     let mut keys = [NO_KEY; LONG];

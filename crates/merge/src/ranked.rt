@@ -1,9 +1,11 @@
 // The ranked merge, in place.
 use crate::Turn;
 use crate::kept::LONG;
+use crate::kept::MIDDLE;
 use crate::kept::ROW_SPAN;
 use crate::kept::SHORT;
 use crate::kept::merge_long;
+use crate::kept::merge_middle;
 use crate::kept::merge_short;
 use index::find_row_from;
 use model::Found;
@@ -133,6 +135,9 @@ pub fn bpe_merge_symbols_ranked(
     let n = lesser(count, ids.len());
     if n <= SHORT {
         return merge_short(left, right, result, rank, row_index, shift, ids, n);
+    }
+    if n <= MIDDLE {
+        return merge_middle(left, right, result, rank, row_index, shift, ids, n);
     }
     if n <= LONG {
         return merge_long(left, right, result, rank, row_index, shift, ids, n);

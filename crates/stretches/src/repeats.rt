@@ -23,43 +23,37 @@ ghost use Rattle.stretches.specs.inner.Writers.{inTurn, unitWriters};
 
 // A unit that was encoded: its bytes in the section, where its ids stand in the buffer, how many it started as and how many are left.
 pub struct Seen {
-    pub start: usize,
-    pub end: usize,
-    pub at: usize,
-    pub starts: usize,
-    pub count: usize,
+    pub start: u32,
+    pub end: u32,
+    pub at: u32,
+    pub starts: u32,
+    pub count: u32,
 }
 
-// The slot of a unit; there are 2,048.
+// The slot of a unit; there are 8,192.
 fn slot_of(section: &[u8], from: usize, next: usize) -> usize
     requires { ⌜ next ≤ length (now section) ⌝ }
-    ensures { λ r. ⌜ r < 2048 ⌝ }
+    ensures { λ r. ⌜ r < 8192 ⌝ }
 {
     let mut slot = 0;
     let mut i = from;
     while i < next {
-        slot = (slot * 31 + section[i] as usize) % 2048;
+        slot = (slot * 31 + section[i] as usize) % 8192;
         i += 1;
     }
     slot
 }
 
-// Whether two parts of the section are the same bytes, and the room is more than `starts`: the buffer was then long enough for the first of them too.
-fn is_repeat(
-    section: &[u8],
-    start: usize,
-    end: usize,
-    from: usize,
-    next: usize,
-    starts: usize,
-    room: usize,
-) -> bool
-    requires { ⌜ (start ≤ end) × (end ≤ length (now section)) × (from ≤ next) × (next ≤ length (now section)) ⌝ }
-    ensures { λ r. ⌜ r ≡ (ltb starts room && same (take (end - start) (drop start (now (section .entry)))) (take (next - from) (drop from (now (section .entry))))) ⌝ }
+// Whether a unit has the same bytes as one that was encoded, and the room is more than that started as: the buffer was then long enough for it too.
+fn is_repeat(section: &[u8], old: Seen, from: usize, next: usize, room: usize) -> bool
+    requires { ⌜ (old .start ≤ old .end) × (old .end ≤ length (now section)) × (from ≤ next) × (next ≤ length (now section)) ⌝ }
+    ensures { λ r. ⌜ r ≡ (ltb (old .starts) room && same (take (old .end - old .start) (drop (old .start) (now (section .entry)))) (take (next - from) (drop from (now (section .entry))))) ⌝ }
 {
-    if room <= starts {
+    if room <= old.starts as usize {
         return false;
     }
+    let start = old.start as usize;
+    let end = old.end as usize;
     equal(&section[start..end], &section[from..next])
 }
 
@@ -110,6 +104,7 @@ pub fn encode_repeats(
     out: &mut [u32],
 ) -> usize
     requires { ⌜ start ≤ length (now section) ⌝ }
+    requires { ⌜ (length (now section) < 4294967296) × (length (now out) < 4294967296) ⌝ }
     ensures { λ n. ⌜ _≡_ {A = Merged} (record { count = n; ids = now (out .exit) }) (inTurn (unitWriters (rowIn (now (left .entry)) (now (right .entry)) (now (result .entry)) (now (rank .entry)) (now («row_index» .entry)) shift) (ownFound (now («piece_bytes» .entry)) (now («piece_offsets» .entry)) (now (lookup .entry)) (now («first_bytes» .entry)) «mark_id») (now (fallback .entry)) false raw (unitsFrom (cutBy kind (namedCrossings (strings (now («piece_bytes» .entry)) (now («piece_offsets» .entry))) (now (noted .entry)) count) (pairNoted (now (adjacency .entry))) raw (now (section .entry))) (now (section .entry)) start)) (now (out .entry))) ⌝ }
 {
     let none = Seen {
@@ -119,7 +114,7 @@ pub fn encode_repeats(
         starts: 0,
         count: 0,
     };
-    let mut seen = [none; 2048];
+    let mut seen = [none; 8192];
     let mut from = start;
     let mut written = 0;
     loop {
@@ -137,9 +132,15 @@ pub fn encode_repeats(
         let slot = slot_of(section, from, next);
         let old = seen[slot];
         let room = out.len() - written;
-        if is_repeat(section, old.start, old.end, from, next, old.starts, room) {
-            repeat_ids(out, old.at, old.count, written, old.starts);
-            written += old.count;
+        if is_repeat(section, old, from, next, room) {
+            repeat_ids(
+                out,
+                old.at as usize,
+                old.count as usize,
+                written,
+                old.starts as usize,
+            );
+            written += old.count as usize;
             if section.len() <= next {
                 return written;
             }
@@ -164,11 +165,11 @@ pub fn encode_repeats(
                 &mut out[written..],
             );
             seen[slot] = Seen {
-                start: from,
-                end: next,
-                at: written,
-                starts: one.starts,
-                count: one.count,
+                start: from as u32,
+                end: next as u32,
+                at: written as u32,
+                starts: one.starts as u32,
+                count: one.count as u32,
             };
             written += one.count;
             if section.len() <= next {

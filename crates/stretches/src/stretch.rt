@@ -11,8 +11,9 @@ use prepare::read::words_between;
 use units::WordSplit;
 use units::cut::next_unit;
 ghost use mathlib.Core.Path.{_≡_};
-ghost use mathlib.Core.Bool.{false};
+ghost use mathlib.Core.Bool.{false, _&&_};
 ghost use Prim.Native.Nat.{_≤_};
+ghost use lib.Dec.{ltb};
 ghost use lib.ListN.{length};
 ghost use Rattle.model.specs.Model.{strings};
 ghost use Rattle.units.specs.Units.{cutBy};
@@ -28,6 +29,22 @@ ghost use Rattle.stretches.specs.inner.Parts.{partsSymbols, partsWriter}
 
 // From how many bytes on a stretch has its units remembered: in a shorter one few come again.
 const LONG: usize = 16384;
+
+// What is remembered of a unit are numbers of 32 bits.
+const TOO_LONG: usize = 4294967296;
+
+// Whether a stretch of so many bytes has its units remembered, with so much room for its ids.
+fn remembers(bytes: usize, room: usize) -> bool
+    ensures { λ r. ⌜ r ≡ (ltb 16383 bytes && (ltb bytes 4294967296 && ltb room 4294967296)) ⌝ }
+{
+    if bytes < LONG {
+        return false;
+    }
+    if TOO_LONG <= bytes {
+        return false;
+    }
+    room < TOO_LONG
+}
 
 // The ids of the units from `start` on into the front of `out`, each unit's behind those of the last. Answers how many there are.
 fn encode_rest(
@@ -55,8 +72,8 @@ fn encode_rest(
     requires { ⌜ start ≤ length (now section) ⌝ }
     ensures { λ n. ⌜ _≡_ {A = Merged} (record { count = n; ids = now (out .exit) }) (inTurn (unitWriters (rowIn (now (left .entry)) (now (right .entry)) (now (result .entry)) (now (rank .entry)) (now («row_index» .entry)) shift) (ownFound (now («piece_bytes» .entry)) (now («piece_offsets» .entry)) (now (lookup .entry)) (now («first_bytes» .entry)) «mark_id») (now (fallback .entry)) false raw (unitsFrom (cutBy kind (namedCrossings (strings (now («piece_bytes» .entry)) (now («piece_offsets» .entry))) (now (noted .entry)) count) (pairNoted (now (adjacency .entry))) raw (now (section .entry))) (now (section .entry)) start)) (now (out .entry))) ⌝ }
 {
-    if section.len() < LONG {
-        return encode_each(
+    if remembers(section.len(), out.len()) {
+        return encode_repeats(
             kind,
             noted,
             count,
@@ -79,7 +96,7 @@ fn encode_rest(
             out,
         );
     }
-    encode_repeats(
+    encode_each(
         kind,
         noted,
         count,

@@ -5,8 +5,17 @@ use borrow.Author.Tests.{le-ltb, lt-ltb}
 use Rattle.stretches.proofs.repeats.is_repeat.Statement.{statement}
 use Rattle.stretches.proofs.repeats.is_repeat.Tie as tie
 
+cast-if1 : tie.Need-cast-if1
+cast-if1 c = search needs
+
 returns : tie.Need-returns
 returns c = rw (le-ltb _ _ (c .if1 .taken))
+
+cast-start : tie.Need-cast-start
+cast-start c = search needs
+
+cast-end : tie.Need-cast-end
+cast-end c = search needs
 
 sub-equal : tie.Need-sub-equal
 sub-equal c = search needs
@@ -30,13 +39,16 @@ equal-requires : tie.Need-equal-requires
 equal-requires c κs = search needs
 
 returns-2 : tie.Need-returns-2
-returns-2 c = c .equal .ensures ∙ sym (rw (lt-ltb _ _ (c .before .before .before .if1 .left)))
+returns-2 c = c .equal .ensures ∙ sym (rw (lt-ltb _ _ (c .before .before .before .before .before .if1 .left)))
 
 pub is-repeat-spec : {M : Type 1} → statement M
 is-repeat-spec =
     tie.close
     (tie.spec
+    cast-if1
     returns
+    cast-start
+    cast-end
     sub-equal
     part-equal-start
     part-equal-end

@@ -6,7 +6,7 @@ use Rattle.stretches.proofs.repeats.slot_of.Statement.{statement}
 use Rattle.stretches.proofs.repeats.slot_of.Tie as tie
 
 abbrev Inv-loop : tie.InvT-loop
-Inv-loop section from next slot₀ i₀ slot i = slot < 2048
+Inv-loop section from next slot₀ i₀ slot i = slot < 8192
 
 abbrev μ-loop : tie.MeasureT-loop
 μ-loop section from next slot₀ i₀ slot i = next - i
