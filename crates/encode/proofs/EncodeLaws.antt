@@ -1,6 +1,6 @@
 -- The outcome of encode, by the first test that applies. Assumes nothing.
 use mathlib.Core.Path.{_≡_, refl, sym, ap, fun-ext, _∙_}
-use mathlib.Core.Bool.{Bool, true, false, not, cond, _&&_, _||_}
+use mathlib.Core.Bool.{Bool, true, false, not, cond, _&&_, _||_, and-false}
 use mathlib.Core.List.{List, [], _∷_, _++_}
 use Prim.Native.Nat.{ℕ, _≤_, _<_, min}
 use native.Mathlib.Nat.{suc-ne-zero}
@@ -32,10 +32,6 @@ use Rattle.encode.specs.Encode.{metaspaceOutputOf, encodedIds, drops, st
 use Rattle.encode.specs.inner.Passes.{partsOutcome, itemOutputs, partStretch, partOutputs, Normal, partsIn, stretchesIn, outputsIn, sectionStretches, sectionOutputs, normalOutcome}
 use Rattle.encode.proofs.OutcomeLaws.{outcome-meant, raw-meant}
 use Rattle.encode.proofs.BytesLaws.{normal-bytes}
-
-and-false : (b : Bool) → (b && false) ≡ false
-and-false true = refl
-and-false false = refl
 
 -- The answers that leave scratch zeroed.
 abbrev clears : ℕ → Bool

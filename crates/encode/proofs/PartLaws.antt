@@ -1,6 +1,5 @@
 -- A walk through the parts of a normalized section: the parts that are still to come. Assumes nothing.
-use Prim.Native.Nat.{ℕ, _<_}
-use native.Mathlib.Omega.{arith}
+use Prim.Native.Nat.{ℕ}
 use mathlib.Core.Path.{_≡_, sym, ap, _∙_}
 use mathlib.Core.Bool.{Bool, true, false}
 use mathlib.Core.List.{List, [], _∷_}
@@ -21,7 +20,6 @@ use Rattle.sections.specs.declared.Next.{Next}
 use Rattle.sections.specs.declared.Next.the-variants.{Plain, Added, Finished}
 use Rattle.sections.proofs.SeekLaws.{first-sound}
 use Rattle.sections.proofs.PartLaws.{partsLeft, partsGiven, parts-step}
-use Rattle.sections.proofs.StepLaws.{stepsLeft, stepsGiven, fewer-steps}
 use Rattle.stretches.specs.Stretches.{stretch}
 use Rattle.stretches.specs.inner.Tables.{Tables}
 use Rattle.stretches.specs.inner.Parts.{partsSymbols, partsWriter}
@@ -40,12 +38,6 @@ module _ (t : TokenList) (text begins : List ℕ) (sound : begins ≡ beginnings
 
   pub none-next : item ≡ Finished → partsLeft t text cursor ≡ []
   none-next e = here ∙ ap (partsGiven t text) e
-
-  pub part-fewer : {start stop : ℕ} {first : Bool} {next : Cursor} → item ≡ Plain start stop first next → stepsLeft next < stepsLeft cursor
-  part-fewer e = omega (arith, fewer-steps t begins true text cursor, ap stepsGiven (sym is), ap stepsGiven e)
-
-  pub added-fewer : {id : ℕ} {next : Cursor} → item ≡ Added id next → stepsLeft next < stepsLeft cursor
-  added-fewer e = omega (arith, fewer-steps t begins true text cursor, ap stepsGiven (sym is), ap stepsGiven e)
 
 -- What the call on a part wrote, where its output is not too long.
 pub part-put : (t : Tables) (metaspace : Metaspace) (text : List ℕ) (start stop : ℕ) (first : Bool) (room : ℕ) (out : List ℕ) {bytes : List ℕ} {done : Merged}

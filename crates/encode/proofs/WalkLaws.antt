@@ -52,9 +52,10 @@ module _ (f : Section → List (Item Stretch)) (t : TokenList) (text : List ℕ)
     unfolding partsLeft
     finished e = ap (takenApart f) (none-here e)
 
-module _ (t : TokenList) (first text : List ℕ) (cursor : Cursor) {item : Next} (is : item ≡ nextItem t first false text cursor) where
+-- Every item leaves less to come, in a walk through sections and in one through the parts of one.
+module _ (t : TokenList) (begins : List ℕ) (afresh : Bool) (text : List ℕ) (cursor : Cursor) {item : Next} (is : item ≡ nextItem t begins afresh text cursor) where
   pub plain-fewer : {start stop : ℕ} {opening : Bool} {next : Cursor} → item ≡ Plain start stop opening next → stepsLeft next < stepsLeft cursor
-  plain-fewer e = omega (arith, fewer-steps t first false text cursor, ap stepsGiven (sym is), ap stepsGiven e)
+  plain-fewer e = omega (arith, fewer-steps t begins afresh text cursor, ap stepsGiven (sym is), ap stepsGiven e)
 
   pub token-fewer : {id : ℕ} {next : Cursor} → item ≡ Added id next → stepsLeft next < stepsLeft cursor
-  token-fewer e = omega (arith, fewer-steps t first false text cursor, ap stepsGiven (sym is), ap stepsGiven e)
+  token-fewer e = omega (arith, fewer-steps t begins afresh text cursor, ap stepsGiven (sym is), ap stepsGiven e)

@@ -14,6 +14,7 @@ use lib.Seq.{getD-append-add}
 use Rattle.utf8.specs.Lists.{isEmpty, any, find, same, takeWhile, below}
 use Rattle.utf8.proofs.Tests.{clash, and-left, and-right, or-left, or-right}
 use Rattle.utf8.proofs.Places.{all-holds, getD-countFrom}
+use Rattle.utf8.proofs.Starts.{same-eq}
 use Rattle.utf8.proofs.Fronts.{front-within, front-passes, front-ended, front-past, getD-row, length-row}
 use Rattle.model.specs.Model.{Model, piece, lookupId, noId, piecesOf, mergeRows, rowOf}
 use Rattle.model.specs.Mark.{mark}
@@ -23,7 +24,7 @@ use Rattle.model.specs.Check.{namesNoPiece, lookupAscends, rowsAscend, allBelow
 use Rattle.model.specs.declared.Order.the-variants.{Less, Greater}
 use Rattle.model.specs.declared.Found.{Found}
 use Rattle.model.specs.declared.Found.the-variants.{At, Nothing}
-use Rattle.model.proofs.OrderLaws.{isEqual, by-below, or-less, or-greater, never, equal-is, same-is-equal, equal-strings, order-turned, turned}
+use Rattle.model.proofs.OrderLaws.{isEqual, by-below, or-less, or-greater, never, equal-is, order-turned, turned}
 use Rattle.model.proofs.SearchLaws.{found-below, found-equal, equal-found, part-searched}
 use Rattle.model.proofs.LookupLaws.{entries-rise, pieces-fall, id-found}
 use Rattle.model.proofs.RowLaws.{lefts-rise, rows-fall, pair-is-equal, row-found}
@@ -35,9 +36,6 @@ use Rattle.index.specs.declared.Told.the-variants.{Row, NoRow, Elsewhere
 use Rattle.index.proofs.PairLaws.{among, among-all, none-beyond, kept, fails-kept, Says, nothing, alone, several, slot-says, slot-below, second-below, table-at, length-pairs, names-alone, names-several}
 
 -- ---- ids as numbers
-
-same-strings : (xs ys : List ℕ) → same xs ys ≡ true → xs ≡ ys
-same-strings xs ys e = equal-strings xs ys (equal-is (byteOrder xs ys) (sym (same-is-equal xs ys) ∙ e))
 
 no-none {ℓ} : {A : Type ℓ} {x : ℕ} → _≡_ {A = Option ℕ} none (some x) → A
 no-none e = let z : _≡_ {A = ℕ} 0 1 = cc in absurd (omega arith)
@@ -166,7 +164,7 @@ module _ (pieces : List (List ℕ)) (lookup : List ℕ) where
           go : (one marks : Bool) → eqb (length key) 1 ≡ one → same key mark ≡ marks → idFrom pieces lookup (pieceIndex pieces lookup) (markId pieces lookup) key ≡ lookupId pieces lookup key
           go true marks e f =
               rw (e, byte-at (getD key 0 0) byte) (key-id pieces lookup named few (getD key 0 0 ∷ []) ∙ ap (lookupId pieces lookup) (sym (one-byte key (eqb-true (length key) 1 e))))
-          go false true e f = rw (e, f) (key-id pieces lookup named few mark ∙ ap (lookupId pieces lookup) (sym (same-strings key mark f)))
+          go false true e f = rw (e, f) (key-id pieces lookup named few mark ∙ ap (lookupId pieces lookup) (sym (same-eq key mark f)))
           go false false e f = rw (e, f) key-found
 
 -- ---- buckets of left ids

@@ -2,7 +2,7 @@
 use mathlib.Core.Path.{_≡_, refl, sym, ap, _∙_}
 use mathlib.Core.Bool.{Bool, true, false, _||_}
 use mathlib.Core.List.{List, [], _∷_}
-use Prim.Native.Nat.{ℕ, _*_, _-_, _≤_, _<_}
+use Prim.Native.Nat.{ℕ, _-_, _≤_, _<_}
 use native.Mathlib.Omega.{arith}
 use borrow.Author.Tests.{ltb-false, lt-ltb, le-ltb, ne-eqb}
 use lib.Dec.{ltb}
@@ -25,7 +25,7 @@ use Rattle.units.specs.Adjacency.{adjacency, adjacencyWord}
 use Rattle.units.specs.Derived.{Place, Noting, crossingPlaces, crossingOf, notedOf, placeWords, notedWords, noting, rawPathBy}
 use Rattle.units.specs.declared.WordSplit.{WordSplit}
 use Rattle.units.specs.declared.RawPath.{RawPath}
-use Rattle.units.proofs.NotingLaws.{crossings-by-place}
+use Rattle.units.proofs.NotingLaws.{crossings-by-place, words-length}
 use Rattle.prepare.specs.Layout.{indexRow}
 use Rattle.prepare.specs.Numbers.{kindNumber, rawPathNumber}
 use Rattle.prepare.specs.Prepare.{derivedAdjacency, derivedIndex, PrepareOutcome, prepareNumber, prepareOutcome}
@@ -70,11 +70,6 @@ module _ (m : Model) (rows index : List ℕ) where
 
 -- ---- crossings that are noted
 
-words-long : (places : List Place) → length (joinMap placeWords places) ≡ length places * 2
-unfolding placeWords
-words-long [] = refl
-words-long (p ∷ ps) = omega (arith, words-long ps)
-
 module _ (pieces : List (List ℕ)) (metaspace : Metaspace) where
   abbrev kind : WordSplit
   kind = wordSplit (crossings pieces) metaspace
@@ -101,7 +96,7 @@ module _ (pieces : List (List ℕ)) (metaspace : Metaspace) where
   noted-long =
       let places = notedOf kind pieces in
       let words = joinMap placeWords places in
-      length-append words (zeros (64 - length words)) ∙ omega (arith, words-long places, few-noted, length-replicate {A = ℕ} (64 - length words) 0)
+      length-append words (zeros (64 - length words)) ∙ omega (arith, words-length places, few-noted, length-replicate {A = ℕ} (64 - length words) 0)
 
 -- The index of what was derived one by one.
 module _ (pieces : List (List ℕ)) (lookup left right rank : List ℕ) (first second : List (List ℕ)) (bytes : List ℕ) (steps : List Step) (metaspace : Metaspace) (split : WordSplit) (count : ℕ) (noted : List ℕ) (is : _≡_ {A = Noting} (record { kind = split; count = count; noted = noted }) (noting pieces (wordSplit (crossings pieces) metaspace))) where

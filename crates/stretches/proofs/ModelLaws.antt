@@ -46,7 +46,7 @@ marked-join virtual [] h = absurd (omega arith)
 marked-join true (u ∷ us) h = refl
 marked-join false (u ∷ us) h = refl
 
-chars-join : (raw : Bool) (us : List (List ℕ)) → join (map (unitChars raw) us) ≡ map (asMark raw) (joinMap chars us)
+pub chars-join : (raw : Bool) (us : List (List ℕ)) → join (map (unitChars raw) us) ≡ map (asMark raw) (joinMap chars us)
 unfolding unitChars
 chars-join raw [] = refl
 chars-join raw (u ∷ us) = ap {B = List (List ℕ)} (λ l. map (asMark raw) (chars u) ++ l) (chars-join raw us) ∙ sym (map-append (asMark raw) (chars u) (joinMap chars us))

@@ -4,7 +4,7 @@ use native.Mathlib.Omega.{arith}
 use mathlib.Core.Path.{_≡_, refl, sym, ap, ap₂, _∙_}
 use mathlib.Core.Bool.{Bool, true, false, not, cond, _&&_, and-true, and-false}
 use mathlib.Core.Logic.{⊎-elim}
-use mathlib.Core.List.{List, [], _∷_, _++_, map, append-nil, map-append}
+use mathlib.Core.List.{List, [], _∷_, _++_, map, append-nil}
 use borrow.Author.Tests.{ltb-true, ltb-false, ne-eqb}
 use lib.Dec.{eqb, ltb}
 use lib.ListN.{length, take, drop, length-drop, take-append-drop}
@@ -20,6 +20,7 @@ use Rattle.merge.specs.Start.{asMark, unitChars, withVirtualMark}
 use Rattle.units.proofs.ShownLaws.{shownByte, shown, prefix, shown-append}
 use Rattle.units.proofs.UnitLaws.{spelledUnits}
 use Rattle.stretches.specs.Stretches.{Stretch}
+use Rattle.stretches.proofs.ModelLaws.{chars-join}
 use Rattle.theorems.specs.UnitsKeepIds.{allChars}
 
 -- ---- a character as it is spelled
@@ -88,11 +89,6 @@ strings-of raw virtual (unit ∷ units) = ap₂ {C = List (List ℕ)} _∷_ (fir
     first true = ap (λ (l : List ℕ). mark ++ l) (shown-chars raw unit)
     first false = shown-chars raw unit
 
-pub chars-plain : (raw : Bool) (units : List (List ℕ)) → join (map (unitChars raw) units) ≡ map (asMark raw) (joinMap chars units)
-unfolding unitChars
-chars-plain raw [] = refl
-chars-plain raw (unit ∷ units) = ap (λ (l : List (List ℕ)). map (asMark raw) (chars unit) ++ l) (chars-plain raw units) ∙ sym (map-append (asMark raw) (chars unit) (joinMap chars units))
-
 -- Units that have the characters of a part are, joined, the characters of the part.
 pub chars-of : (raw virtual : Bool) (unit : List ℕ) (units : List (List ℕ)) (part : List ℕ) → joinMap chars (unit ∷ units) ≡ chars part
     → join (withVirtualMark virtual (map (unitChars raw) (unit ∷ units))) ≡ allChars (record { bytes = part; virtual = virtual; raw = raw })
@@ -100,7 +96,7 @@ unfolding withVirtualMark allChars unitChars
 chars-of raw virtual unit units part e = go virtual
   where
     whole : unitChars raw unit ++ join (map (unitChars raw) units) ≡ unitChars raw part
-    whole = chars-plain raw (unit ∷ units) ∙ ap (map (asMark raw)) e
+    whole = chars-join raw (unit ∷ units) ∙ ap (map (asMark raw)) e
 
     go : (v : Bool) → cond v (mark ∷ unitChars raw unit) (unitChars raw unit) ++ join (map (unitChars raw) units) ≡ cond v (mark ∷ unitChars raw part) (unitChars raw part)
     go true = ap {B = List (List ℕ)} (λ l. mark ∷ l) whole

@@ -93,7 +93,7 @@ module _ {A : Type 0} (l : List A) (n : ℕ) (x : A) (r : List A) (e : drop n l 
 
 -- ---- the words of places
 
-words-length : (places : List Place) → length (joinMap placeWords places) ≡ length places * 2
+pub words-length : (places : List Place) → length (joinMap placeWords places) ≡ length places * 2
 unfolding placeWords
 words-length [] = refl
 words-length (p ∷ ps) = omega (arith, words-length ps)

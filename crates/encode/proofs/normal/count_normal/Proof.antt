@@ -2,6 +2,7 @@
 -- and nothing was too long before the cursor.
 use Prim.Native.Nat.{ℕ, _-_, min}
 use native.Mathlib.Omega.{arith}
+use mathlib.Core.Bool.{false}
 use mathlib.Core.Path.{_≡_, refl, ap₂, _∙_}
 use mathlib.Core.List.{List, _∷_}
 use mathlib.Core.Option.{Option}
@@ -99,7 +100,7 @@ loop-less c =
     let n = c .before .before in
     let f = n .before .before in
     let s = start (f .before .before) in
-    token-fewer (tokensOf s) (s .args .first-begins .now) (s .args .text .now) (f .before .loop .cursor) (f .next-item .ensures) (n .next .given .1)
+    token-fewer (tokensOf s) (s .args .first-begins .now) false (s .args .text .now) (f .before .loop .cursor) (f .next-item .ensures) (n .next .given .1)
 
 loop-again : tie.Need-loop-again Inv-loop μ-loop
 loop-again c =
@@ -114,7 +115,7 @@ loop-less-2 c =
     let n = c .before .before in
     let f = n .before .before in
     let s = start (f .before .before) in
-    token-fewer (tokensOf s) (s .args .first-begins .now) (s .args .text .now) (f .before .loop .cursor) (f .next-item .ensures) (n .next .given .1)
+    token-fewer (tokensOf s) (s .args .first-begins .now) false (s .args .text .now) (f .before .loop .cursor) (f .next-item .ensures) (n .next .given .1)
 
 loop-again-2 : tie.Need-loop-again-2 Inv-loop μ-loop
 loop-again-2 c =
@@ -202,7 +203,7 @@ loop-less-3 : tie.Need-loop-less-3 Inv-loop μ-loop
 loop-less-3 c =
     let p = countedAt (c .before .before .before .before) in
     let s = startAt p in
-    plain-fewer (tokensOf s) (s .args .first-begins .now) (s .args .text .now) (headAt p .loop .cursor) (walkAt p .next-item .ensures) (itemAt p .start .given .1)
+    plain-fewer (tokensOf s) (s .args .first-begins .now) false (s .args .text .now) (headAt p .loop .cursor) (walkAt p .next-item .ensures) (itemAt p .start .given .1)
 
 loop-again-3 : tie.Need-loop-again-3 Inv-loop μ-loop
 loop-again-3 c =

@@ -2,6 +2,7 @@
 -- nothing was too long before the cursor.
 use Prim.Native.Nat.{ℕ, _-_}
 use native.Mathlib.Omega.{arith}
+use mathlib.Core.Bool.{true}
 use mathlib.Core.Path.{_≡_, refl, _∙_}
 use mathlib.Core.List.{List, _∷_}
 use mathlib.Core.Option.{Option}
@@ -18,7 +19,8 @@ use Rattle.stretches.specs.inner.Tables.{ownIn}
 use Rattle.stretches.specs.inner.Parts.{partsSymbols}
 use Rattle.encode.specs.inner.Passes.{counted, partStretch, partOutputs}
 use Rattle.encode.proofs.ItemLaws.{Counting, counting-start, counting-token, counting-full, counting-ended, counting-long, counting-next, counting-fits}
-use Rattle.encode.proofs.PartLaws.{part-next, added-next, none-next, part-fewer, added-fewer, part-found}
+use Rattle.encode.proofs.WalkLaws.{plain-fewer, token-fewer}
+use Rattle.encode.proofs.PartLaws.{part-next, added-next, none-next, part-found}
 use Rattle.encode.proofs.parts.count_parts.Statement.{statement}
 use Rattle.encode.proofs.parts.count_parts.Tie as tie
 
@@ -83,7 +85,7 @@ loop-less c =
     let n = c .before .before in
     let f = n .before .before in
     let s = start (f .before .before) in
-    added-fewer (tokensOf s) (s .args .text .now) (s .args .begins .now) (s .pre .0) (s .pre .1 .0) (f .before .loop .cursor) (f .next-item .ensures) (n .next .given .1)
+    token-fewer (tokensOf s) (s .args .begins .now) true (s .args .text .now) (f .before .loop .cursor) (f .next-item .ensures) (n .next .given .1)
 
 loop-again : tie.Need-loop-again Inv-loop μ-loop
 loop-again c =
@@ -98,7 +100,7 @@ loop-less-2 c =
     let n = c .before .before in
     let f = n .before .before in
     let s = start (f .before .before) in
-    added-fewer (tokensOf s) (s .args .text .now) (s .args .begins .now) (s .pre .0) (s .pre .1 .0) (f .before .loop .cursor) (f .next-item .ensures) (n .next .given .1)
+    token-fewer (tokensOf s) (s .args .begins .now) true (s .args .text .now) (f .before .loop .cursor) (f .next-item .ensures) (n .next .given .1)
 
 loop-again-2 : tie.Need-loop-again-2 Inv-loop μ-loop
 loop-again-2 c =
@@ -182,7 +184,7 @@ loop-less-3 : tie.Need-loop-less-3 Inv-loop μ-loop
 loop-less-3 c =
     let p = c .before .before .before .before .before .before in
     let s = startAt p in
-    part-fewer (tokensOf s) (s .args .text .now) (s .args .begins .now) (s .pre .0) (s .pre .1 .0) (headAt p .loop .cursor) (walkAt p .next-item .ensures) (itemAt p .start .given .1)
+    plain-fewer (tokensOf s) (s .args .begins .now) true (s .args .text .now) (headAt p .loop .cursor) (walkAt p .next-item .ensures) (itemAt p .start .given .1)
 
 loop-again-3 : tie.Need-loop-again-3 Inv-loop μ-loop
 loop-again-3 c =

@@ -2,6 +2,7 @@
 -- none of them is too long.
 use Prim.Native.Nat.{ℕ, _-_}
 use native.Mathlib.Omega.{arith}
+use mathlib.Core.Bool.{true}
 use mathlib.Core.Path.{_≡_, refl, ap, _∙_}
 use mathlib.Core.List.{List, _∷_, map}
 use borrow.Author.Needs.{needs}
@@ -20,7 +21,8 @@ use Rattle.stretches.proofs.WriterLaws.{Going, going-start}
 use Rattle.encode.specs.inner.Passes.{partStretch, partOutputs}
 use Rattle.encode.proofs.PassLaws.{parts-on, parts-fit, token-on, token-fit, parts-ended}
 use Rattle.encode.proofs.ItemLaws.{Short, short-head, short-rest}
-use Rattle.encode.proofs.PartLaws.{part-next, added-next, none-next, part-fewer, added-fewer, part-put}
+use Rattle.encode.proofs.WalkLaws.{plain-fewer, token-fewer}
+use Rattle.encode.proofs.PartLaws.{part-next, added-next, none-next, part-put}
 use Rattle.encode.proofs.parts.encode_parts.Statement.{statement}
 use Rattle.encode.proofs.parts.encode_parts.Tie as tie
 
@@ -116,7 +118,7 @@ loop-less c =
     let n = c .before .before .before .before .before in
     let f = n .before .before in
     let s = start (f .before .before) in
-    added-fewer (tokensOf s) (s .args .text .now) (s .args .begins .now) (s .pre .0) (s .pre .1 .0) (f .before .loop .cursor) (f .next-item .ensures) (n .id .given .1)
+    token-fewer (tokensOf s) (s .args .begins .now) true (s .args .text .now) (f .before .loop .cursor) (f .next-item .ensures) (n .id .given .1)
 
 loop-again : tie.Need-loop-again Inv-loop μ-loop
 loop-again c =
@@ -204,7 +206,7 @@ loop-less-2 : tie.Need-loop-less-2 Inv-loop μ-loop
 loop-less-2 c =
     let p = c .before .before .before .before .before .before .before in
     let s = startAt p in
-    part-fewer (tokensOf s) (s .args .text .now) (s .args .begins .now) (s .pre .0) (s .pre .1 .0) (headAt p .loop .cursor) (walkAt p .next-item .ensures) (itemAt p .start .given .1)
+    plain-fewer (tokensOf s) (s .args .begins .now) true (s .args .text .now) (headAt p .loop .cursor) (walkAt p .next-item .ensures) (itemAt p .start .given .1)
 
 loop-again-2 : tie.Need-loop-again-2 Inv-loop μ-loop
 loop-again-2 c =

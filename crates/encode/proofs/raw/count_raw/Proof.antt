@@ -1,6 +1,7 @@
 -- `encode::raw::count_raw` meets its contract. The loop's invariant: what is counted and the parts from the cursor on make up the whole.
 use Prim.Native.Nat.{ℕ, _-_}
 use native.Mathlib.Omega.{arith}
+use mathlib.Core.Bool.{false}
 use mathlib.Core.Path.{ap, _∙_}
 use mathlib.Core.List.{List}
 use mathlib.Core.Option.{Option}
@@ -73,7 +74,7 @@ loop-less c =
     let n = c .before .before in
     let f = n .before .before in
     let s = start (f .before .before) in
-    token-fewer (tokensOf s) (s .args .begins .now) (s .args .text .now) (f .before .loop .cursor) (f .next-item .ensures) (n .next .given .1)
+    token-fewer (tokensOf s) (s .args .begins .now) false (s .args .text .now) (f .before .loop .cursor) (f .next-item .ensures) (n .next .given .1)
 
 loop-again : tie.Need-loop-again Inv-loop μ-loop
 loop-again c =
@@ -88,7 +89,7 @@ loop-less-2 c =
     let n = c .before .before in
     let f = n .before .before in
     let s = start (f .before .before) in
-    token-fewer (tokensOf s) (s .args .begins .now) (s .args .text .now) (f .before .loop .cursor) (f .next-item .ensures) (n .next .given .1)
+    token-fewer (tokensOf s) (s .args .begins .now) false (s .args .text .now) (f .before .loop .cursor) (f .next-item .ensures) (n .next .given .1)
 
 loop-again-2 : tie.Need-loop-again-2 Inv-loop μ-loop
 loop-again-2 c =
@@ -124,7 +125,7 @@ loop-less-3 c =
     let n = c .before .before .before .before .before in
     let f = n .before .before in
     let s = start (f .before .before) in
-    plain-fewer (tokensOf s) (s .args .begins .now) (s .args .text .now) (f .before .loop .cursor) (f .next-item .ensures) (n .start .given .1)
+    plain-fewer (tokensOf s) (s .args .begins .now) false (s .args .text .now) (f .before .loop .cursor) (f .next-item .ensures) (n .start .given .1)
 
 loop-again-3 : tie.Need-loop-again-3 Inv-loop μ-loop
 loop-again-3 c =
