@@ -15,3 +15,4 @@ pub mod Counts
 pub mod Fronts
 pub mod Elements
 pub mod Joins
+pub mod Plain

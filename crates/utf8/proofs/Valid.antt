@@ -55,7 +55,7 @@ valid-step t h =
     ap (all isChar) (chars-step t (omega (arith, charWidth-le-length t))) ∙ rw one (rw wide)
 
 -- The prefix's length where a character stands at the head.
-prefix-length : (t : List ℕ) → 0 < charWidth t
+pub prefix-length : (t : List ℕ) → 0 < charWidth t
     → length (longestValidPrefix t) ≡ charWidth t + length (longestValidPrefix (drop (charWidth t) t))
 prefix-length t h =
     ap length (prefix-step t h)

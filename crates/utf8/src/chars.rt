@@ -1,12 +1,14 @@
 // UTF-8 by RFC 3629: characters, and the longest prefix that is valid.
 ghost use mathlib.Core.Path.{_≡_};
-ghost use mathlib.Core.Bool.{cond};
+ghost use mathlib.Core.Bool.{cond, _&&_};
 ghost use mathlib.Core.List.{_∷_};
 ghost use Prim.Native.Nat.{_+_, _*_, _-_, _≤_, max};
+ghost use lib.Dec.{ltb, leb};
 ghost use lib.ListN.{length, take, drop, replicate};
 ghost use Rattle.utf8.specs.Lists.{within};
 ghost use Rattle.utf8.specs.Chars.{tail, hasForm, charWidth, valid, longestValidPrefix, codePoint};
 ghost use Rattle.utf8.specs.inner.Ends.{lastWidth};
+ghost use Rattle.utf8.specs.inner.Plain.{largest};
 
 pub fn is_within(b: u8, low: u8, high: u8) -> bool
     ensures { λ r. ⌜ r ≡ within (low, high) b ⌝ }
@@ -78,17 +80,63 @@ pub fn last_width(s: &[u8]) -> usize
     0
 }
 
+fn larger(a: u8, b: u8) -> u8
+    ensures { λ r. ⌜ r ≡ max a b ⌝ }
+{
+    if a <= b {
+        return b;
+    }
+    a
+}
+
+// The largest of two bytes from i on, of four, and of eight: no test in between, so that eight bytes cost as one.
+fn largest_of_two(s: &[u8], i: usize) -> u8
+    requires { ⌜ i + 2 ≤ length (now s) ⌝ }
+    ensures { λ r. ⌜ r ≡ largest (take 2 (drop i (now (s .entry)))) ⌝ }
+{
+    larger(s[i], s[i + 1])
+}
+
+fn largest_of_four(s: &[u8], i: usize) -> u8
+    requires { ⌜ i + 4 ≤ length (now s) ⌝ }
+    ensures { λ r. ⌜ r ≡ largest (take 4 (drop i (now (s .entry)))) ⌝ }
+{
+    larger(largest_of_two(s, i), largest_of_two(s, i + 2))
+}
+
+fn largest_of_eight(s: &[u8], i: usize) -> u8
+    requires { ⌜ i + 8 ≤ length (now s) ⌝ }
+    ensures { λ r. ⌜ r ≡ largest (take 8 (drop i (now (s .entry)))) ⌝ }
+{
+    larger(largest_of_four(s, i), largest_of_four(s, i + 4))
+}
+
+// Whether eight bytes follow from i on that are characters by themselves.
+fn are_eight_plain(s: &[u8], i: usize) -> bool
+    requires { ⌜ i ≤ length (now s) ⌝ }
+    ensures { λ r. ⌜ r ≡ (leb 8 (length (now (s .entry)) - i) && ltb (largest (take 8 (drop i (now (s .entry))))) 0x80) ⌝ }
+{
+    if s.len() - i < 8 {
+        return false;
+    }
+    largest_of_eight(s, i) < 0x80
+}
+
 // How long the longest prefix of s that is valid UTF-8 is.
 pub fn valid_prefix(s: &[u8]) -> usize
     ensures { λ r. ⌜ r ≡ length (longestValidPrefix (now (s .entry))) ⌝ }
 {
     let mut i = 0;
     while i < s.len() {
-        let w = char_width(&s[i..]);
-        if w == 0 {
-            return i;
+        if are_eight_plain(s, i) {
+            i += 8;
+        } else {
+            let w = char_width(&s[i..]);
+            if w == 0 {
+                return i;
+            }
+            i += w;
         }
-        i += w;
     }
     i
 }
