@@ -116,8 +116,8 @@ fn merge_scanned(
     }
 }
 
-// Merges the first `count` ids in place until no pair has a row, and answers how many are left.
-pub fn bpe_merge_symbols_ranked(
+// The same by the length: rows are kept where there is room for them.
+fn merge_longer(
     left: &[u32],
     right: &[u32],
     result: &[u32],
@@ -133,9 +133,6 @@ pub fn bpe_merge_symbols_ranked(
         return merge_scanned(left, right, result, rank, row_index, shift, ids, count);
     }
     let n = lesser(count, ids.len());
-    if n <= SHORT {
-        return merge_short(left, right, result, rank, row_index, shift, ids, n);
-    }
     if n <= MIDDLE {
         return merge_middle(left, right, result, rank, row_index, shift, ids, n);
     }
@@ -143,4 +140,28 @@ pub fn bpe_merge_symbols_ranked(
         return merge_long(left, right, result, rank, row_index, shift, ids, n);
     }
     merge_scanned(left, right, result, rank, row_index, shift, ids, count)
+}
+
+// Merges the first `count` ids in place until no pair has a row, and answers how many are left. Short units, which most are, have a way of
+// their own, without the stack that longer ones take.
+pub fn bpe_merge_symbols_ranked(
+    left: &[u32],
+    right: &[u32],
+    result: &[u32],
+    rank: &[u32],
+    row_index: &[u32],
+    shift: u32,
+    ids: &mut [u32],
+    count: usize,
+) -> usize
+    ensures { λ n. ⌜ _≡_ {A = Merged} (record { count = n; ids = now (ids .exit) }) (mergedFront (rowIn (now (left .entry)) (now (right .entry)) (now (result .entry)) (now (rank .entry)) (now («row_index» .entry)) shift) count (now (ids .entry))) ⌝ }
+{
+    if ROW_SPAN < left.len() {
+        return merge_longer(left, right, result, rank, row_index, shift, ids, count);
+    }
+    let n = lesser(count, ids.len());
+    if n <= SHORT {
+        return merge_short(left, right, result, rank, row_index, shift, ids, n);
+    }
+    merge_longer(left, right, result, rank, row_index, shift, ids, count)
 }

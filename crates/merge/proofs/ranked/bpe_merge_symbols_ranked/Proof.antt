@@ -17,8 +17,8 @@ all l =
     let s = start (l .before) .args in
     front-counted (rowIn (s .left .now) (s .right .now) (s .result .now) (s .rank .now) (s .row-index .now) (s .shift)) (l .lesser .result) (s .count) (s .ids .now) (l .lesser .ensures)
 
-merge-scanned-requires : tie.Need-merge-scanned-requires
-merge-scanned-requires c κs = search needs
+merge-longer-requires : tie.Need-merge-longer-requires
+merge-longer-requires c κs = search needs
 
 same-length : tie.Need-same-length
 same-length c = search needs
@@ -43,60 +43,26 @@ returns-2 c =
     let m = c .before .before in
     m .merge-short .ensures ∙ all (m .before .before .before)
 
-merge-middle-requires : tie.Need-merge-middle-requires
-merge-middle-requires c κs =
-    let t = c .before in
-    let l = t .before .before in
-    (l .before .if1 .left, (omega (arith, l .lesser .ensures), t .if3 .taken))
+merge-longer-requires-2 : tie.Need-merge-longer-requires-2
+merge-longer-requires-2 c κs = search needs
 
 same-length-3 : tie.Need-same-length-3
 same-length-3 c = search needs
 
 returns-3 : tie.Need-returns-3
-returns-3 c =
-    let m = c .before .before in
-    m .merge-middle .ensures ∙ all (m .before .before .before .before)
-
-merge-long-requires : tie.Need-merge-long-requires
-merge-long-requires c κs =
-    let t = c .before in
-    let l = t .before .before .before in
-    (l .before .if1 .left, (omega (arith, l .lesser .ensures), t .if4 .taken))
-
-same-length-4 : tie.Need-same-length-4
-same-length-4 c = search needs
-
-returns-4 : tie.Need-returns-4
-returns-4 c =
-    let m = c .before .before in
-    m .merge-long .ensures ∙ all (m .before .before .before .before .before)
-
-merge-scanned-requires-2 : tie.Need-merge-scanned-requires-2
-merge-scanned-requires-2 c κs = search needs
-
-same-length-5 : tie.Need-same-length-5
-same-length-5 c = search needs
-
-returns-5 : tie.Need-returns-5
-returns-5 c = search needs
+returns-3 c = search needs
 
 pub bpe-merge-symbols-ranked-spec : {M : Type 1} → statement M
 bpe-merge-symbols-ranked-spec =
     tie.close
     (tie.spec
-    merge-scanned-requires
+    merge-longer-requires
     same-length
     returns
     lesser-requires
     merge-short-requires
     same-length-2
     returns-2
-    merge-middle-requires
+    merge-longer-requires-2
     same-length-3
-    returns-3
-    merge-long-requires
-    same-length-4
-    returns-4
-    merge-scanned-requires-2
-    same-length-5
-    returns-5)
+    returns-3)
