@@ -28,7 +28,7 @@ use Rattle.stretches.specs.inner.Tables.{Tables, ownIn}
 use Rattle.stretches.specs.inner.Parts.{partsSymbols, partsWriter}
 use Rattle.stretches.proofs.WriterLaws.{Each}
 use Rattle.stretches.proofs.PartLaws.{keeps-parts}
-use Rattle.stretches.proofs.DerivedLaws.{tablesOf, OfBytes, parts-counted, parts-written}
+use Rattle.stretches.proofs.DerivedLaws.{tablesWith, tablesOf, OfBytes, parts-counted, parts-written}
 use Rattle.encode.specs.declared.Counted.{Counted}
 use Rattle.encode.specs.declared.Counted.the-variants.{Counts, TooLong}
 use Rattle.encode.specs.Parts.{rawStretch, stretchesOf, parts}
@@ -122,18 +122,7 @@ raw-meant m fine prepend e continuation text small out =
 -- The same where the two rows are lent.
 module _ (m : Model) {adjacency index : List ℕ} (rows : adjacency ≡ derivedAdjacency m) (is : index ≡ derivedIndex m) where
   abbrev pub lentTables : Tables
-  lentTables = record {
-    adjacency = adjacency;
-    index = index;
-    pieceBytes = m .pieceBytes;
-    pieceOffsets = m .pieceOffsets;
-    lookup = m .lookup;
-    fallback = m .fallback;
-    left = m .left;
-    right = m .right;
-    result = m .result;
-    rank = m .rank;
-  }
+  lentTables = tablesWith adjacency index m
 
   pub raw-lent : (parts : List (Item Stretch)) (out : List ℕ) → partsOutcome lentTables parts out ≡ partsOutcome (tablesOf m) parts out
   raw-lent parts out = rw (rows, is)

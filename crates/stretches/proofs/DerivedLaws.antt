@@ -37,11 +37,11 @@ use Rattle.stretches.proofs.ModelLaws.{cutsBy, stretch-counted, stretch
 
 -- ---- by the model
 
--- What a prepared call is lent.
-abbrev pub tablesOf : Model → Tables
-tablesOf m = record {
-  adjacency = derivedAdjacency m;
-  index = derivedIndex m;
+-- The columns of a model and two rows.
+abbrev pub tablesWith : List ℕ → List ℕ → Model → Tables
+tablesWith adjacency index m = record {
+  adjacency = adjacency;
+  index = index;
   pieceBytes = m .pieceBytes;
   pieceOffsets = m .pieceOffsets;
   lookup = m .lookup;
@@ -51,6 +51,10 @@ tablesOf m = record {
   result = m .result;
   rank = m .rank;
 }
+
+-- What a prepared call is lent.
+abbrev pub tablesOf : Model → Tables
+tablesOf m = tablesWith (derivedAdjacency m) (derivedIndex m) m
 
 -- ---- parts of bytes
 
