@@ -205,7 +205,12 @@ pub fn text(dice: &mut Dice, model: &Model) -> String {
         18 => dice.below(120),
         _ => dice.below(700),
     };
-    let own = dice.between(1, 10) * 10;
+    // Where no piece adds to a text, all of them empty or bytes that are no UTF-8, something else must.
+    let adds = |piece: &Vec<u8>| !piece.is_empty() && std::str::from_utf8(piece).is_ok();
+    let own = match dice.between(1, 10) * 10 {
+        100 if !model.pieces.iter().any(adds) => 90,
+        own => own,
+    };
     let run = dice.percent(15);
     let mut text = String::new();
     while text.len() < length {
