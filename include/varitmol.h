@@ -133,7 +133,7 @@ extern "C" {
 #define VARITMOL_SCRATCH_TOO_SHORT 11 /* an output of a step or of metaspace is longer than the shorter scratch buffer; in encode only where the
                                          model has no raw path */
 #define VARITMOL_RESULT_TOO_SHORT 12  /* the result does not fit: bytes for normalise and decode, two numbers a range for fragments, derived
-                                         words for prepare; for encode the ids before merging, so more cells than it then writes */
+                                         words for prepare; for encode the ids before merging, mostly more than it then writes */
 
 /* After 0 the result buffer holds the result and then zeros to its end. After any other number it is as it was. Scratch, which only normalise and
  * encode take, is zero from end to end after 0, 11 and 12 and else as it was. */
@@ -300,10 +300,10 @@ static inline void *varitmol_lent_(void *pointer) {
     VARITMOL_TOKENS_((model)->first), VARITMOL_TOKENS_((model)->second), \
     VARITMOL_OCTETS_((model)->step_bytes), (model)->step_bytes_len, VARITMOL_OCTETS_((model)->step_kinds), (model)->step_count, \
     VARITMOL_WORDS_((model)->step_spans), 4 * (model)->step_count, (model)->metaspace, (model)->split
-/* Scratch is lent as two halves; only the shorter of the two lengths ever counts. */
+/* Scratch is lent as two halves, of which the second has the odd byte; only the shorter of the two lengths ever counts. */
 #define VARITMOL_HALVES_(scratch, scratch_len) \
     (uint8_t *)varitmol_lent_(scratch), (scratch_len) / 2, \
-    (uint8_t *)varitmol_lent_(scratch) + (scratch_len) / 2, (scratch_len) / 2
+    (uint8_t *)varitmol_lent_(scratch) + (scratch_len) / 2, (scratch_len) - (scratch_len) / 2
 
 static inline varitmol_answer varitmol_model_check(const struct varitmol_model *model) {
     return varitmol_check(VARITMOL_COLUMNS_OF_(model));
