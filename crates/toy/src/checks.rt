@@ -17,7 +17,6 @@ use crate::tables::t_offsets;
 use crate::tables::t_pieces;
 use crate::tables::t_result;
 use crate::tables::t_step;
-use crate::tables::t_token;
 use model::Metaspace;
 use model::PrependScheme;
 use model::Step;
@@ -80,7 +79,8 @@ fn check_and_tell(
     tell(name, answer.number);
 }
 
-fn check_t(name: &[u8], fault: u32) {
+// T with a token in its first list, and broken where `fault` says.
+fn check_t(name: &[u8], fault: u32, token: &[u8]) {
     let pieces = t_pieces(fault);
     let offsets = t_offsets(fault);
     let lookup = t_lookup(fault);
@@ -89,7 +89,6 @@ fn check_t(name: &[u8], fault: u32) {
     let right = RIGHT_T;
     let result = t_result(fault);
     let rank = RANK_T;
-    let token = t_token(fault);
     check_and_tell(
         name,
         &pieces,
@@ -100,7 +99,7 @@ fn check_t(name: &[u8], fault: u32) {
         &right,
         &result,
         &rank,
-        &token,
+        token,
         t_step(fault),
     );
 }
@@ -131,17 +130,31 @@ fn check_u() {
 }
 
 pub(crate) fn run() {
-    check_t(b"T", 0);
+    check_t(b"T", 0, b"<n>");
     check_u();
-    check_t(b"T, but a piece of 287 bytes", model::WRONG_SIZE);
-    check_t(b"T, but an offset past the end", model::OFFSETS_ASTRAY);
-    check_t(b"T, but the mark is cut short", model::BAD_PIECE);
+    check_t(b"T, but a piece of 287 bytes", model::WRONG_SIZE, b"<n>");
+    check_t(
+        b"T, but an offset past the end",
+        model::OFFSETS_ASTRAY,
+        b"<n>",
+    );
+    check_t(b"T, but the mark is cut short", model::BAD_PIECE, b"<n>");
     check_t(
         b"T, but two lookup entries change places",
         model::BAD_LOOKUP,
+        b"<n>",
     );
-    check_t(b"T, but A9 falls back to the piece C3", model::BAD_FALLBACK);
-    check_t(b"T, but the first row gives ab", model::BAD_ROW);
-    check_t(b"T, but the token is no text", model::BAD_TOKEN);
-    check_t(b"T, but the step string is half a letter", model::BAD_STEP);
+    check_t(
+        b"T, but A9 falls back to the piece C3",
+        model::BAD_FALLBACK,
+        b"<n>",
+    );
+    check_t(b"T, but the first row gives ab", model::BAD_ROW, b"<n>");
+    check_t(b"T, but the token is no text", 0, b"<\xFF>");
+    check_t(b"T, but the token is empty", 0, b"");
+    check_t(
+        b"T, but the step string is half a letter",
+        model::BAD_STEP,
+        b"<n>",
+    );
 }

@@ -148,14 +148,6 @@ pub(crate) fn t_result(fault: u32) -> [u32; 2] {
     result
 }
 
-pub(crate) fn t_token(fault: u32) -> [u8; 3] {
-    let mut token = TOKEN;
-    if fault == model::BAD_TOKEN {
-        token[1] = 0xFF;
-    }
-    token
-}
-
 pub(crate) fn t_step(fault: u32) -> Step {
     if fault == model::BAD_STEP {
         return Step::Prepend(Span { place: 0, len: 1 });
