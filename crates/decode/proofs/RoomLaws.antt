@@ -8,9 +8,8 @@ use mathlib.Core.Logic.{⊎-elim}
 use mathlib.Core.List.{List, [], _∷_, _++_}
 use borrow.Author.Tests.{leb-true, leb-false, le-leb, lt-leb, ltb-true, ltb-false, eqb-true}
 use lib.Dec.{leb, ltb, eqb}
-use lib.ListN.{length, take, drop, getD, length-append, length-take}
+use lib.ListN.{length, take, drop, getD, length-append, length-take, List·getD-eq-default}
 use lib.Seq.{drop-cons}
-use lib.ListN.{List·getD-eq-default}
 use Rattle.utf8.specs.Lists.{all, same, join, joinMap, within}
 use Rattle.utf8.specs.Chars.{tail, charWidth, chars, isChar, valid}
 use Rattle.utf8.proofs.Tests.{either, and-left, and-right}

@@ -19,6 +19,7 @@ use Rattle.utf8.proofs.Joins.{joinMap-append}
 use Rattle.utf8.proofs.Starts.{no-elements, not-empty, same-eq, apart-by-length}
 use Rattle.utf8.proofs.Elements.{not-empty-long}
 use Rattle.utf8.proofs.Forms.{widthAmong-bounds}
+use Rattle.utf8.proofs.Plain.{plain-width}
 use Rattle.utf8.proofs.Characters.{charWidth-le-length, charWidth-append, charWidth-lead, charWidth-tail, charWidth-first, chars-char, chars-nil, chars-step, join-chars}
 use Rattle.model.specs.Model.{Model, piece, piecesOf, stepsOf}
 use Rattle.model.specs.Mark.{mark, space}
@@ -50,10 +51,6 @@ stray-first : (gone : Bool) (c : List ℕ) → charWidth c ≡ 0 → shownFirst 
 unfolding shownFirst replacement space
 stray-first gone c none = rw (stray-shown c none, and-false gone)
 
-ascii-width : (b : ℕ) → b ≤ 0x7F → charWidth (b ∷ []) ≡ 1
-unfolding charForms
-ascii-width b h = charWidth-lead 0 (b ∷ []) (omega arith) (omega arith) h
-
 high-width : (b : ℕ) → 0x7F < b → charWidth (b ∷ []) ≡ 0
 unfolding charWidth charForms
 high-width b h = go (charWidth (b ∷ [])) refl
@@ -67,7 +64,7 @@ high-width b h = go (charWidth (b ∷ [])) refl
 
 pub shown-ascii : (gone : Bool) (b : ℕ) → b ≤ 0x7F → shownFirst gone (b ∷ []) ≡ cond (gone && eqb b 0x20) [] (b ∷ [])
 unfolding shownFirst shown isChar mark space
-shown-ascii gone b h = rw (ascii-width b h, and-false (eqb b 0xE2), and-true (eqb b 0x20))
+shown-ascii gone b h = rw (plain-width b [] (omega arith), and-false (eqb b 0xE2), and-true (eqb b 0x20))
 
 pub shown-stray : (gone : Bool) (b : ℕ) → 0x7F < b → isOpen (b ∷ []) ≡ false → shownFirst gone (b ∷ []) ≡ replacement
 shown-stray gone b h shut = stray-first gone (b ∷ []) (high-width b h)

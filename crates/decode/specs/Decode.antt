@@ -39,11 +39,11 @@ straysReplaced bytes = joinMap (λ (c : List ℕ). cond (isChar c) c replacement
 unfoldable pub marksSpaced : List ℕ → List ℕ
 marksSpaced bytes = joinMap (λ (c : List ℕ). cond (same c mark) space c) (chars bytes)
 
-unfoldable pub prependsMark : Metaspace → Bool
-prependsMark Absent = false
-prependsMark (Present Never split) = false
-prependsMark (Present Always split) = true
-prependsMark (Present First split) = true
+unfoldable pub schemePrepends : Metaspace → Bool
+schemePrepends Absent = false
+schemePrepends (Present Never split) = false
+schemePrepends (Present Always split) = true
+schemePrepends (Present First split) = true
 
 unfoldable pub isPrepend : Step → Bool
 isPrepend (Prepend content) = true
@@ -53,7 +53,7 @@ isPrepend (Strip left right) = false
 
 -- Rule 12.4: the model puts something in front of texts.
 unfoldable pub prependsSpace : Metaspace → List Step → Bool
-prependsSpace metaspace steps = prependsMark metaspace || any isPrepend steps
+prependsSpace metaspace steps = schemePrepends metaspace || any isPrepend steps
 
 -- Without the space in front, where it is to go.
 unfoldable pub leadingSpaceGone : Bool → List ℕ → List ℕ

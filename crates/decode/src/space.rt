@@ -5,10 +5,10 @@ use model::Step;
 ghost use mathlib.Core.Path.{_≡_};
 ghost use Prim.Native.Nat.{_≤_};
 ghost use lib.ListN.{take};
-ghost use Rattle.decode.specs.Decode.{prependsMark, isPrepend, prependsSpace};
+ghost use Rattle.decode.specs.Decode.{schemePrepends, isPrepend, prependsSpace};
 
 fn prepends_mark(metaspace: Metaspace) -> bool
-    ensures { λ r. ⌜ r ≡ prependsMark metaspace ⌝ }
+    ensures { λ r. ⌜ r ≡ schemePrepends metaspace ⌝ }
 {
     match metaspace {
         Metaspace::Absent => false,

@@ -14,6 +14,7 @@ use normal::encode_normal;
 use normalise::finish::clear;
 use prepare::numbers::raw_path_from;
 use prepare::prepare_checked;
+use prepare::read::words_between;
 use raw::encode_raw;
 use units::RawPath;
 use utf8::chars::valid_prefix;
@@ -94,7 +95,7 @@ pub fn encode_prepared(
                 first_ids,
                 first_lstrip,
                 first_rstrip,
-                &index[prepare::FIRST_TOKENS_AT..prepare::SECOND_TOKENS_AT],
+                words_between(index, prepare::FIRST_TOKENS_AT, prepare::SECOND_TOKENS_AT),
                 prepend,
                 continuation,
                 text,
@@ -124,13 +125,13 @@ pub fn encode_prepared(
                 first_ids,
                 first_lstrip,
                 first_rstrip,
-                &index[prepare::FIRST_TOKENS_AT..prepare::SECOND_TOKENS_AT],
+                words_between(index, prepare::FIRST_TOKENS_AT, prepare::SECOND_TOKENS_AT),
                 second_bytes,
                 second_offsets,
                 second_ids,
                 second_lstrip,
                 second_rstrip,
-                &index[prepare::SECOND_TOKENS_AT..prepare::LONGEST_AT],
+                words_between(index, prepare::SECOND_TOKENS_AT, prepare::LONGEST_AT),
                 step_bytes,
                 steps,
                 step_count,

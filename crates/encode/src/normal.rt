@@ -31,7 +31,7 @@ ghost use Rattle.sections.specs.Sections.{takenApart, sections};
 ghost use Rattle.sections.specs.Beginnings.{beginnings};
 ghost use Rattle.stretches.specs.inner.Tables.{ownIn};
 ghost use Rattle.stretches.specs.inner.Parts.{partsSymbols, partsWriter};
-ghost use Rattle.encode.specs.inner.Passes.{counted, itemOutputs, Normal, stretchesIn, outputsIn, sectionStretches, sectionOutputs, normalOutcome};
+ghost use Rattle.encode.specs.inner.Passes.{counted, itemOutputs, stretchesIn, outputsIn, sectionStretches, sectionOutputs, normalOutcome};
 
 // The starting ids of a section and one for each token in it, counted up to `cells`, and its drops.
 pub(crate) fn count_normal_section(

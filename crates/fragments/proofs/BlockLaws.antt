@@ -18,7 +18,7 @@ use Rattle.utf8.proofs.Joins.{starts-rest, valid-starts}
 use Rattle.model.specs.Check.{emptyOrNoText, badToken}
 use Rattle.model.specs.Model.{TokenList, contents, tokenAt}
 use Rattle.sections.specs.Sections.{whiteLength}
-use Rattle.fragments.specs.Safe.{blocks, blockStart, blockEnd, block, blockedBy}
+use Rattle.fragments.specs.Safe.{makesBlocks, blockStart, blockEnd, block, blockedBy}
 use Rattle.fragments.specs.inner.Most.{most}
 use Rattle.fragments.specs.inner.Reach.{Edge, Fine, placesAhead, standsAt, stripsAt, blockedAhead, blockedIn, reachOf, reachAt, reach}
 use Rattle.fragments.proofs.ChoiceLaws.{never, lt-or-le, chosen, positive}
@@ -79,7 +79,7 @@ module _ (unguarded : Bool) (t : TokenList) (text : List ℕ) where
   -- A token that blocks stands at a place.
   pub record Occurs (s row : ℕ) : Type 0 where
     pub listed : row < length (contents t)
-    pub blocking : blocks unguarded (tokenAt t row) ≡ true
+    pub blocking : makesBlocks unguarded (tokenAt t row) ≡ true
     pub stands : standsAt t text s row ≡ true
 
   abbrev end : ℕ → ℕ → ℕ
@@ -112,7 +112,7 @@ module _ (unguarded : Bool) (t : TokenList) (text : List ℕ) where
       let w = any-where (λ (row : ℕ). blockedBy unguarded text p (tokenAt t row)) 0 (length (contents t)) e in
       let row = w .place in
       let test : ℕ → Bool = λ s. startsWith (tokenAt t row .content) (drop s text) && within (block unguarded text (tokenAt t row) s) p in
-      let v = any-where test 0 (length text) (and-right (blocks unguarded (tokenAt t row)) _ (w .holds)) in
+      let v = any-where test 0 (length text) (and-right (makesBlocks unguarded (tokenAt t row)) _ (w .holds)) in
       let s = v .place in
       let inside = and-right (startsWith (tokenAt t row .content) (drop s text)) (within (block unguarded text (tokenAt t row) s) p) (v .holds) in
       record {
@@ -120,7 +120,7 @@ module _ (unguarded : Bool) (t : TokenList) (text : List ℕ) where
         row = row;
         occurs = record {
           listed = omega (arith, w .high);
-          blocking = and-left (blocks unguarded (tokenAt t row)) _ (w .holds);
+          blocking = and-left (makesBlocks unguarded (tokenAt t row)) _ (w .holds);
           stands = and-left (startsWith (tokenAt t row .content) (drop s text)) (within (block unguarded text (tokenAt t row) s) p) (v .holds);
         };
         before-end = omega (arith, v .high);
@@ -142,7 +142,7 @@ module _ (unguarded : Bool) (t : TokenList) (text : List ℕ) where
   -- How far, by a value at a place and a row, the occurrences go whose rows pass a test,
   abbrev pub furthestOf : (ℕ → Bool) → (ℕ → ℕ → ℕ) → ℕ → ℕ → ℕ
   furthestOf test value from to =
-      most (λ (s : ℕ). most (λ (row : ℕ). cond (test row && (blocks unguarded (tokenAt t row) && standsAt t text s row)) (value s row) 0) (countFrom 0 (length (contents t)))) (countFrom from (to - from))
+      most (λ (s : ℕ). most (λ (row : ℕ). cond (test row && (makesBlocks unguarded (tokenAt t row) && standsAt t text s row)) (value s row) 0) (countFrom 0 (length (contents t)))) (countFrom from (to - from))
 
   -- and the one that goes that far.
   pub record Furthest (test : ℕ → Bool) (value : ℕ → ℕ → ℕ) (from to n : ℕ) : Type 0 where
@@ -156,12 +156,12 @@ module _ (unguarded : Bool) (t : TokenList) (text : List ℕ) where
 
   pub furthest-where : (test : ℕ → Bool) (value : ℕ → ℕ → ℕ) (from to : ℕ) → 0 < furthestOf test value from to → Furthest test value from to (furthestOf test value from to)
   furthest-where test value from to h =
-      let counted : ℕ → ℕ → ℕ = λ s row. cond (test row && (blocks unguarded (tokenAt t row) && standsAt t text s row)) (value s row) 0 in
+      let counted : ℕ → ℕ → ℕ = λ s row. cond (test row && (makesBlocks unguarded (tokenAt t row) && standsAt t text s row)) (value s row) 0 in
       let v = most-where (λ (s : ℕ). most (counted s) (countFrom 0 (length (contents t)))) from (to - from) h in
       let s = v .place in
       let w = most-where (counted s) 0 (length (contents t)) (omega (arith, v .is)) in
       let row = w .place in
-      let both = blocks unguarded (tokenAt t row) && standsAt t text s row in
+      let both = makesBlocks unguarded (tokenAt t row) && standsAt t text s row in
       let shown : (test row && both) ≡ true = positive (test row && both) (value s row) (omega (arith, v .is, w .is)) in
       record {
         at = s;
@@ -170,8 +170,8 @@ module _ (unguarded : Bool) (t : TokenList) (text : List ℕ) where
         high = omega (arith, v .low, v .high);
         occurs = record {
           listed = omega (arith, w .high);
-          blocking = and-left (blocks unguarded (tokenAt t row)) (standsAt t text s row) (and-right (test row) both shown);
-          stands = and-right (blocks unguarded (tokenAt t row)) (standsAt t text s row) (and-right (test row) both shown);
+          blocking = and-left (makesBlocks unguarded (tokenAt t row)) (standsAt t text s row) (and-right (test row) both shown);
+          stands = and-right (makesBlocks unguarded (tokenAt t row)) (standsAt t text s row) (and-right (test row) both shown);
         };
         passes = and-left (test row) both shown;
         is = sym (chosen (test row && both) (value s row) shown) ∙ w .is ∙ v .is;
@@ -212,8 +212,8 @@ module _ (unguarded : Bool) (t : TokenList) (text : List ℕ) where
   unfolding blockStart
   plain-start s row e = rw e
 
-  strip-blocks : (row : ℕ) → tokenAt t row .lstrip ≡ true → blocks unguarded (tokenAt t row) ≡ true
-  unfolding blocks
+  strip-blocks : (row : ℕ) → tokenAt t row .lstrip ≡ true → makesBlocks unguarded (tokenAt t row) ≡ true
+  unfolding makesBlocks
   strip-blocks row e = go (any _ (tokenAt t row .content)) (tokenAt t row .rstrip)
     where
       go : (a r : Bool) → (a || tokenAt t row .lstrip || r || unguarded) ≡ true

@@ -15,7 +15,7 @@ use Rattle.model.specs.Model.{TokenList, Token, strings, contents, tokenAt}
 use Rattle.sections.specs.Beginnings.{beginsWith, beginnings}
 use Rattle.sections.specs.inner.Seek.{mayBegin}
 use Rattle.sections.proofs.SeekLaws.{Sound, first-sound}
-use Rattle.fragments.specs.Safe.{blocks}
+use Rattle.fragments.specs.Safe.{makesBlocks}
 use Rattle.fragments.specs.inner.Most.{most}
 use Rattle.fragments.specs.inner.Reach.{tokensOf, Longest, isAs, standsAt, stripsAt, endOf, endAt}
 use Rattle.fragments.proofs.ChoiceLaws.{never, or-first, second-false, not-chosen}
@@ -27,20 +27,20 @@ module _ (unguarded : Bool) (k : Token) where
   abbrev held : Bool
   held = any (λ (b : ℕ). eqb b 0x20 || eqb b 0xE2) (k .content)
 
-  pub blocks-left : k .lstrip ≡ true → blocks unguarded k ≡ true
-  unfolding blocks
+  pub blocks-left : k .lstrip ≡ true → makesBlocks unguarded k ≡ true
+  unfolding makesBlocks
   blocks-left e = or-first unguarded (or-first (k .rstrip) (or-also held e))
 
-  pub blocks-right : k .rstrip ≡ true → blocks unguarded k ≡ true
-  unfolding blocks
+  pub blocks-right : k .rstrip ≡ true → makesBlocks unguarded k ≡ true
+  unfolding makesBlocks
   blocks-right e = or-first unguarded (or-also (held || k .lstrip) e)
 
-  pub blocks-always : unguarded ≡ true → blocks unguarded k ≡ true
-  unfolding blocks
+  pub blocks-always : unguarded ≡ true → makesBlocks unguarded k ≡ true
+  unfolding makesBlocks
   blocks-always e = or-also (held || k .lstrip || k .rstrip) e
 
-  pub blocks-held : k .lstrip ≡ false → k .rstrip ≡ false → unguarded ≡ false → blocks unguarded k ≡ held
-  unfolding blocks
+  pub blocks-held : k .lstrip ≡ false → k .rstrip ≡ false → unguarded ≡ false → makesBlocks unguarded k ≡ held
+  unfolding makesBlocks
   blocks-held e f g = rw (e, f, g) (last held)
     where
       last : (b : Bool) → (b || false || false || false) ≡ b
@@ -48,7 +48,7 @@ module _ (unguarded : Bool) (k : Token) where
       last false = refl
 
 -- A token's parts, as they were found.
-pub same-token : (unguarded : Bool) {c d : List ℕ} {l m r q : Bool} → c ≡ d → l ≡ m → r ≡ q → blocks unguarded (record { content = c; id = 0; lstrip = l; rstrip = r }) ≡ blocks unguarded (record { content = d; id = 0; lstrip = m; rstrip = q })
+pub same-token : (unguarded : Bool) {c d : List ℕ} {l m r q : Bool} → c ≡ d → l ≡ m → r ≡ q → makesBlocks unguarded (record { content = c; id = 0; lstrip = l; rstrip = r }) ≡ makesBlocks unguarded (record { content = d; id = 0; lstrip = m; rstrip = q })
 same-token unguarded e f g = rw (e, f, g)
 
 -- A content against what stands from a place on.
@@ -78,17 +78,17 @@ module _ (unguarded strip : Bool) (bytes offsets : List ℕ) (lstrip rstrip : Li
 
   pub end-other : flag ≡ false → 0 ≡ endOf unguarded t text strip s row
   unfolding endOf tokenAt contents standsAt
-  end-other e = not-chosen {b = flag && (blocks unguarded token && stands)} far (rw e)
+  end-other e = not-chosen {b = flag && (makesBlocks unguarded token && stands)} far (rw e)
 
   pub end-apart : stands ≡ false → 0 ≡ endOf unguarded t text strip s row
   unfolding endOf tokenAt contents standsAt
-  end-apart e = not-chosen far (second-false flag (second-false (blocks unguarded token) e))
+  end-apart e = not-chosen far (second-false flag (second-false (makesBlocks unguarded token) e))
 
-  pub end-idle : blocks unguarded token ≡ false → 0 ≡ endOf unguarded t text strip s row
+  pub end-idle : makesBlocks unguarded token ≡ false → 0 ≡ endOf unguarded t text strip s row
   unfolding endOf tokenAt contents standsAt
   end-idle e = not-chosen far (second-false flag (ap (λ (b : Bool). b && stands) e))
 
-  pub end-stands : flag ≡ true → stands ≡ true → blocks unguarded token ≡ true → far ≡ endOf unguarded t text strip s row
+  pub end-stands : flag ≡ true → stands ≡ true → makesBlocks unguarded token ≡ true → far ≡ endOf unguarded t text strip s row
   unfolding endOf tokenAt contents standsAt
   end-stands e f g = sym (picked (and-both e (and-both g f)))
     where
@@ -100,7 +100,7 @@ module _ (unguarded strip : Bool) (bytes offsets : List ℕ) (lstrip rstrip : Li
 module _ (unguarded : Bool) (t : TokenList) (text : List ℕ) (strip : Bool) (longest : ℕ) (bound : Longest t longest) where
   end-most : (s : ℕ) → endAt unguarded t text strip s ≤ s + longest
   unfolding endAt endOf
-  end-most s = most-below (endOf unguarded t text strip s) 0 (length (contents t)) (s + longest) (λ row l h. at-most (isAs strip (tokenAt t row .rstrip) && (blocks unguarded (tokenAt t row) && standsAt t text s row)) (length (tokenAt t row .content)) (bound .bounds row (omega arith)))
+  end-most s = most-below (endOf unguarded t text strip s) 0 (length (contents t)) (s + longest) (λ row l h. at-most (isAs strip (tokenAt t row .rstrip) && (makesBlocks unguarded (tokenAt t row) && standsAt t text s row)) (length (tokenAt t row .content)) (bound .bounds row (omega arith)))
     where
       at-most : (b : Bool) (n : ℕ) → n ≤ longest → cond b (s + n) 0 ≤ s + longest
       at-most true n h = omega arith
@@ -135,7 +135,7 @@ module _ (t : TokenList) (text : List ℕ) (begins : List ℕ) (sound : Sound be
   pub none-ends : (unguarded strip : Bool) → s < length text → mayBegin begins (getD text s 0) ≡ false → endAt unguarded t text strip s ≡ 0
   unfolding endAt endOf
   none-ends unguarded strip h e =
-      let low = most-below (endOf unguarded t text strip s) 0 (length (contents t)) 0 (λ row l k. omega (arith, not-chosen (s + length (tokenAt t row .content)) (second-false (isAs strip (tokenAt t row .rstrip)) (second-false (blocks unguarded (tokenAt t row)) (none-stands h e row (omega arith)))))) in
+      let low = most-below (endOf unguarded t text strip s) 0 (length (contents t)) 0 (λ row l k. omega (arith, not-chosen (s + length (tokenAt t row .content)) (second-false (isAs strip (tokenAt t row .rstrip)) (second-false (makesBlocks unguarded (tokenAt t row)) (none-stands h e row (omega arith)))))) in
       omega arith
 
   strip-none : ((row : ℕ) → row < length (contents t) → standsAt t text s row ≡ false) → stripsAt t text s ≡ false

@@ -14,7 +14,7 @@ use Rattle.utf8.proofs.Places.{length-countFrom}
 use Rattle.model.specs.Answers.{zeros, done, refused, filled, Outcome, outcome}
 use Rattle.model.specs.declared.Answer.{Answer}
 use Rattle.model.specs.Model.{TokenList}
-use Rattle.units.specs.Derived.{namedCrossings}
+use Rattle.units.specs.inner.Read.{namedCrossings}
 use Rattle.units.specs.declared.WordSplit.{WordSplit}
 use Rattle.fragments.specs.Fragments.{cutsFrom}
 use Rattle.fragments.specs.inner.Reach.{Given}

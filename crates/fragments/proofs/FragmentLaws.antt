@@ -11,7 +11,6 @@ use lib.ListN.{length, getD}
 use lib.Seq.{slice}
 use Rattle.utf8.specs.Lists.{filter, below}
 use Rattle.utf8.specs.Chars.{valid, longestValidPrefix}
-use Rattle.utf8.proofs.Places.{slice-of}
 use Rattle.utf8.proofs.Valid.{valid-by-prefix}
 use Rattle.model.specs.Model.{Model, TokenList, strings, contents, tokenAt, piecesOf}
 use Rattle.model.specs.Answers.{lowest, placeOf, Outcome, outcome, refused}
@@ -20,18 +19,18 @@ use Rattle.model.specs.declared.Answer.{Answer}
 use Rattle.model.proofs.Accepted.{accepted}
 use Rattle.model.proofs.AnswerLaws.{lowest-later, lowest-first, tests-positive, tests-of-check, text-too-long, model-bound, check-refuses, number-checked}
 use Rattle.units.specs.Kinds.{kindOf, rawPath, hasRawPath}
-use Rattle.units.specs.Derived.{noting, namedCrossings}
+use Rattle.units.specs.Derived.{noting}
+use Rattle.units.specs.inner.Read.{namedCrossings}
 use Rattle.units.specs.declared.RawPrepend.{RawPrepend}
 use Rattle.units.specs.declared.RawPath.the-variants.{Absent, Present}
 use Rattle.units.proofs.DerivedLaws.{marks-derived, fit-accepted, piece-sizes-fine, accepted-sizes}
 use Rattle.prepare.specs.Layout.{kindAt, crossingCountAt, crossingsAt, markIdAt, firstTokensAt, secondTokensAt, longestContentAt}
-use Rattle.prepare.specs.Numbers.{kindFrom}
+use Rattle.prepare.specs.inner.Read.{kindFrom}
 use Rattle.prepare.specs.Prepare.{derivedIndex}
 use Rattle.prepare.proofs.ReadLaws.{kind-read, count-read, crossings-at, longest-at}
 use Rattle.prepare.proofs.PreparedLaws.{first-begins}
-use Rattle.sections.specs.Beginnings.{beginnings}
 use Rattle.sections.proofs.LengthLaws.{none-longer}
-use Rattle.fragments.specs.Safe.{isUnguarded, blocks, blockStart, blockEnd, block, blockedBy, isBlocked, isSafe}
+use Rattle.fragments.specs.Safe.{isUnguarded, makesBlocks, blockStart, blockEnd, block, blockedBy, isBlocked, isSafe}
 use Rattle.fragments.specs.Fragments.{cuts, ranges, rangeNumbers, fragmentsNumber, fragmentsOutcome}
 use Rattle.fragments.specs.inner.Reach.{tokensOf, Longest, blockedIn, Given}
 use Rattle.fragments.specs.inner.Search.{safeIn, cutsIn, numbersIn, rangesOutcome}
@@ -140,7 +139,7 @@ module _ (m : Model) (fine : checkNumber m ≡ 0) where
 
   safe-derived : (text : List ℕ) (p : ℕ)
       → safeIn (kindOf m) (namedCrossings (piecesOf m) (noting (piecesOf m) (kindOf m) .noted) (noting (piecesOf m) (kindOf m) .count)) (isUnguarded (rawPath m)) firstTokens text p ≡ isSafe m text p
-  unfolding safeIn isSafe isBlocked blockedIn blockedBy block blockStart blockEnd blocks tokenAt contents piecesOf
+  unfolding safeIn isSafe isBlocked blockedIn blockedBy block blockStart blockEnd makesBlocks tokenAt contents piecesOf
   safe-derived text p =
       rw (marks-derived (piecesOf m) (fit-accepted (m .pieceBytes) (m .pieceOffsets) (piece-sizes-fine m (accepted-sizes m fine))) (kindOf m) true text p)
 
@@ -171,9 +170,8 @@ module _ (m : Model) (fine : checkNumber m ≡ 0) where
     pub given-derived : (text : List ℕ) → valid text ≡ true → Given firstTokens (slice firstTokensAt secondTokensAt index) (getD index longestContentAt 0) text
     unfolding contents
     given-derived text v =
-        let same = slice-of firstTokensAt secondTokensAt index in
         record {
           fine = record { text-valid = v; contents-fine = accepted m fine .firstTexts };
-          first = sym same ∙ first-begins m is ∙ ap (λ (l : List ℕ). beginnings (contents (m .first)) (length l)) same;
+          first = first-begins m is refl;
           long = longest-bounds;
         }

@@ -22,8 +22,8 @@ isUnguarded (raw.Present prepend.GuardedAlways) = false
 isUnguarded (raw.Present prepend.GuardedFirst) = false
 
 -- Rule 11.4: the token blocks places.
-unfoldable pub blocks : Bool → Token → Bool
-blocks unguarded t =
+unfoldable pub makesBlocks : Bool → Token → Bool
+makesBlocks unguarded t =
     any (λ (b : ℕ). eqb b 0x20 || eqb b 0xE2) (t .content) || t .lstrip || t .rstrip || unguarded
 
 -- Rule 11.5: where the block of an occurrence at s begins.
@@ -41,7 +41,7 @@ block unguarded text t s = (blockStart text t s, blockEnd unguarded text t (s + 
 -- The place lies in the block of some occurrence, whether occurrences overlap or not.
 unfoldable pub blockedBy : Bool → List ℕ → ℕ → Token → Bool
 blockedBy unguarded text p t =
-    blocks unguarded t
+    makesBlocks unguarded t
     && any (λ (s : ℕ). startsWith (t .content) (drop s text) && within (block unguarded text t s) p) (below (length text))
 
 unfoldable pub isBlocked : Model → List ℕ → ℕ → Bool

@@ -11,7 +11,7 @@ ghost use Prim.Native.Nat.{ℕ, _+_, _≤_, max};
 ghost use lib.Dec.{eqb, ltb};
 ghost use lib.ListN.{length};
 ghost use Rattle.utf8.specs.Lists.{any};
-ghost use Rattle.fragments.specs.Safe.{blocks};
+ghost use Rattle.fragments.specs.Safe.{makesBlocks};
 ghost use Rattle.fragments.specs.inner.Reach.{tokensOf, isAs, Given, endOf, endAt, endBetween};
 
 // Whether a content has a space in it or the first byte of a mark.
@@ -33,7 +33,7 @@ fn holds_space(content: &[u8]) -> bool
 
 // Whether a token blocks places.
 fn is_blocking(content: &[u8], lstrip: bool, rstrip: bool, unguarded: bool) -> bool
-    ensures { λ r. ⌜ r ≡ blocks unguarded (record { content = now (content .entry); id = 0; lstrip = lstrip; rstrip = rstrip }) ⌝ }
+    ensures { λ r. ⌜ r ≡ makesBlocks unguarded (record { content = now (content .entry); id = 0; lstrip = lstrip; rstrip = rstrip }) ⌝ }
 {
     if lstrip {
         return true;

@@ -10,7 +10,7 @@ ghost use Prim.Native.Nat.{_≤_, _<_};
 ghost use lib.ListN.{length};
 ghost use Rattle.model.specs.Answers.{Outcome};
 ghost use Rattle.model.specs.Model.{strings};
-ghost use Rattle.units.specs.Derived.{namedCrossings};
+ghost use Rattle.units.specs.inner.Read.{namedCrossings};
 ghost use Rattle.fragments.specs.inner.Reach.{tokensOf, Given};
 ghost use Rattle.fragments.specs.inner.Search.{safeIn, numbersIn, rangesOutcome};
 

@@ -99,7 +99,7 @@ pub fn fragments_prepared(
     }
 }
 
-// The ranges of a text that may be encoded apart, none but the last shorter than `target` if it can be helped.
+// The ranges of a text that may be encoded apart, none but the last shorter than `target`.
 pub fn fragments(
     piece_bytes: &[u8],
     piece_offsets: &[u32],

@@ -14,7 +14,7 @@ ghost use lib.Dec.{eqb};
 ghost use lib.ListN.{length};
 ghost use Rattle.model.specs.Model.{strings};
 ghost use Rattle.units.specs.Units.{markCuts};
-ghost use Rattle.units.specs.Derived.{namedCrossings};
+ghost use Rattle.units.specs.inner.Read.{namedCrossings};
 ghost use Rattle.fragments.specs.inner.Reach.{tokensOf, Edge, Given};
 ghost use Rattle.fragments.specs.inner.Search.{firstFrom, Known, Judged, NextCut};
 

@@ -7,7 +7,7 @@ ghost use mathlib.Core.List.{_∷_, _++_};
 ghost use Prim.Native.Nat.{_+_, _≤_, _<_};
 ghost use lib.ListN.{length, take, drop};
 ghost use Rattle.model.specs.Model.{strings};
-ghost use Rattle.units.specs.Derived.{namedCrossings};
+ghost use Rattle.units.specs.inner.Read.{namedCrossings};
 ghost use Rattle.fragments.specs.inner.Reach.{tokensOf, Given};
 ghost use Rattle.fragments.specs.inner.Search.{safeIn, Known, NextCut, cutsIn, numbersIn};
 

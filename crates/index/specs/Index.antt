@@ -1,5 +1,5 @@
--- What is derived of the two sorted tables once, so that a search in them begins near its end: where each first byte begins in the
--- lookup list, the ids of the mark and of single bytes, where each bucket of left ids begins in the merge rows, and two tables that
+-- What is derived of the two sorted tables once (rule 15.3), so that a search in them begins near its end: where each first byte begins in
+-- the lookup list, the ids of the mark and of single bytes, where each bucket of left ids begins in the merge rows, and two tables that
 -- name the row of nearly every pair.
 use Prim.Native.Nat.{ℕ, _+_, _-_, _*_, _/_, _%_, _^_}
 use mathlib.Core.Bool.{Bool, cond, not}
@@ -60,7 +60,7 @@ bucketWords = 4097
 unfoldable pub buckets : List ℕ → ℕ → List ℕ
 buckets left shift = map (bucketStart left shift) (below bucketWords)
 
--- The pair tables. A pair of ids belongs to one of 131,072 slots of the first, and to one of 32,768 of the second, by odd numbers below
+-- Rule 15.4: the pair tables. A pair of ids belongs to one of 131,072 slots of the first, and to one of 32,768 of the second, by odd numbers below
 -- 2^31 that spread the pairs.
 abbrev pub slotCount : ℕ
 slotCount = 131072

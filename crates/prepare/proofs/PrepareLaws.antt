@@ -22,7 +22,9 @@ use Rattle.model.proofs.CompleteLaws.{lookup-length}
 use Rattle.model.proofs.Accepted.{Accepted}
 use Rattle.units.specs.Kinds.{crossings, isTangled, splits, wordSplit, kindOf, rawPath}
 use Rattle.units.specs.Adjacency.{adjacency, adjacencyWord}
-use Rattle.units.specs.Derived.{Place, Noting, crossingPlaces, crossingOf, notedOf, placeWords, notedWords, noting, rawPathBy}
+use Rattle.units.specs.Derived.{Noting, crossingPlaces, notedOf, placeWords, notedWords, noting}
+use Rattle.units.specs.inner.Path.{rawPathBy}
+use Rattle.units.specs.inner.Read.{crossingOf}
 use Rattle.units.specs.declared.WordSplit.{WordSplit}
 use Rattle.units.specs.declared.RawPath.{RawPath}
 use Rattle.units.proofs.NotingLaws.{crossings-by-place, words-length}

@@ -1,11 +1,11 @@
 -- What a prepared call reads of the two rows that it is lent, and that prepare fills rows of the fixed lengths with them. Assumes nothing.
-use Prim.Native.Nat.{ℕ, _-_, _≤_}
+use Prim.Native.Nat.{ℕ, _-_}
 use native.Mathlib.Omega.{arith}
 use mathlib.Core.Path.{_≡_, sym, ap, _∙_}
 use mathlib.Core.List.{List, append-nil}
-use lib.ListN.{length, getD, take, drop}
+use lib.ListN.{length, getD}
+use lib.Seq.{slice}
 use Rattle.utf8.proofs.Fronts.{length-row}
-use Rattle.utf8.proofs.Places.{slice-of}
 use Rattle.model.specs.Model.{Model, contents, piecesOf}
 use Rattle.model.specs.Answers.{filled, done}
 use Rattle.model.specs.Check.{checkNumber}
@@ -13,8 +13,8 @@ use Rattle.model.specs.declared.Answer.{Answer}
 use Rattle.units.specs.Kinds.{rawPath}
 use Rattle.units.specs.declared.RawPath.{RawPath}
 use Rattle.sections.specs.Beginnings.{beginnings}
-use Rattle.prepare.specs.Layout.{indexLength, rawPathAt, firstTokensAt, secondTokensAt, longestContentAt}
-use Rattle.prepare.specs.Numbers.{rawPathFrom}
+use Rattle.prepare.specs.Layout.{rawPathAt, firstTokensAt, secondTokensAt, longestContentAt}
+use Rattle.prepare.specs.inner.Read.{rawPathFrom}
 use Rattle.prepare.specs.Prepare.{derivedAdjacency, derivedIndex, PrepareOutcome, prepareOutcome}
 use Rattle.prepare.proofs.PrepareLaws.{prepared, length-adjacency}
 use Rattle.prepare.proofs.ReadLaws.{raw-path-read, first-tokens-at, second-tokens-at, index-long}
@@ -25,21 +25,14 @@ unfolding beginnings
 own-length contents n e = e ∙ ap (beginnings contents) (sym (ap length e ∙ length-row _ n))
 
 module _ (m : Model) {index : List ℕ} (is : index ≡ derivedIndex m) where
-  pub index-enough : indexLength ≤ length index
-  index-enough = omega (arith, ap length is, index-long m)
-
   pub path-read : {number : ℕ} {path : RawPath} → number ≡ getD index rawPathAt 0 → path ≡ rawPathFrom number → path ≡ rawPath m
   path-read e f = f ∙ ap rawPathFrom (e ∙ ap (λ (l : List ℕ). getD l rawPathAt 0) is) ∙ raw-path-read m
 
-  -- A part of the index, as code reads it.
-  part-read : (from to : ℕ) → take (to - from) (drop from index) ≡ take (to - from) (drop from (derivedIndex m))
-  part-read from to = ap (λ (l : List ℕ). take (to - from) (drop from l)) is
+  pub first-begins : {row : List ℕ} → row ≡ slice firstTokensAt secondTokensAt index → row ≡ beginnings (contents (m .first)) (length row)
+  first-begins e = own-length (contents (m .first)) 256 (e ∙ ap (slice firstTokensAt secondTokensAt) is ∙ first-tokens-at m)
 
-  pub first-begins : let row = take (secondTokensAt - firstTokensAt) (drop firstTokensAt index) in row ≡ beginnings (contents (m .first)) (length row)
-  first-begins = own-length (contents (m .first)) 256 (part-read firstTokensAt secondTokensAt ∙ slice-of firstTokensAt secondTokensAt (derivedIndex m) ∙ first-tokens-at m)
-
-  pub second-begins : let row = take (longestContentAt - secondTokensAt) (drop secondTokensAt index) in row ≡ beginnings (contents (m .second)) (length row)
-  second-begins = own-length (contents (m .second)) 256 (part-read secondTokensAt longestContentAt ∙ slice-of secondTokensAt longestContentAt (derivedIndex m) ∙ second-tokens-at m)
+  pub second-begins : {row : List ℕ} → row ≡ slice secondTokensAt longestContentAt index → row ≡ beginnings (contents (m .second)) (length row)
+  second-begins e = own-length (contents (m .second)) 256 (e ∙ ap (slice secondTokensAt longestContentAt) is ∙ second-tokens-at m)
 
 -- Rows of the fixed lengths hold what is derived and nothing more.
 whole : (row out : List ℕ) → length out ≡ length row → filled row out ≡ row

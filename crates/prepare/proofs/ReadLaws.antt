@@ -17,7 +17,8 @@ use Rattle.units.specs.declared.RawPrepend.the-variants as prepend
 use Rattle.units.specs.declared.RawPath.{RawPath}
 use Rattle.units.specs.declared.RawPath.the-variants.{Absent, Present}
 use Rattle.prepare.specs.Layout.{kindAt, rawPathAt, crossingCountAt, crossingsAt, markIdAt, shiftAt, firstBytesAt, bucketsAt, firstTokensAt, secondTokensAt, longestContentAt, indexLength, pieceWords, tokenWords, indexRow}
-use Rattle.prepare.specs.Numbers.{kindNumber, kindFrom, rawPathNumber, rawPathFrom}
+use Rattle.prepare.specs.Numbers.{kindNumber, rawPathNumber}
+use Rattle.prepare.specs.inner.Read.{kindFrom, rawPathFrom}
 use Rattle.prepare.specs.Prepare.{derivedIndex}
 use Rattle.prepare.proofs.LayoutLaws.{length-pieceIndex, length-rowIndex, length-pieceWords, length-index}
 use Rattle.prepare.proofs.PrepareLaws.{noted-long}

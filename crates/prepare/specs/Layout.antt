@@ -1,4 +1,4 @@
--- How what is derived of a model is laid out as words.
+-- How what is derived of a model is laid out as words (rule 15.3).
 use Prim.Native.Nat.{ℕ}
 use mathlib.Core.List.{List, [], _∷_, _++_}
 use lib.ListN.{length}

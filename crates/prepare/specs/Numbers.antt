@@ -1,7 +1,5 @@
--- The kind of split and the raw path as numbers.
+-- The kind of split and the raw path as numbers (rule 15.3).
 use Prim.Native.Nat.{ℕ}
-use mathlib.Core.Bool.{cond}
-use lib.Dec.{eqb}
 use Rattle.units.specs.declared.WordSplit.{WordSplit}
 use Rattle.units.specs.declared.WordSplit.the-variants.{SpaceRuns, EveryMark, None}
 use Rattle.units.specs.declared.RawPrepend.the-variants as prepend
@@ -13,20 +11,9 @@ kindNumber SpaceRuns = 0
 kindNumber EveryMark = 1
 kindNumber None = 2
 
--- The kind of a number; from 2 on None.
-unfoldable pub kindFrom : ℕ → WordSplit
-kindFrom number = cond (eqb number 0) SpaceRuns (cond (eqb number 1) EveryMark None)
-
 unfoldable pub rawPathNumber : RawPath → ℕ
 rawPathNumber Absent = 0
 rawPathNumber (Present prepend.Never) = 1
 rawPathNumber (Present prepend.Unguarded) = 2
 rawPathNumber (Present prepend.GuardedAlways) = 3
 rawPathNumber (Present prepend.GuardedFirst) = 4
-
--- The raw path of a number; above 4 there is none.
-unfoldable pub rawPathFrom : ℕ → RawPath
-rawPathFrom number =
-    cond (eqb number 1) (Present prepend.Never)
-    (cond (eqb number 2) (Present prepend.Unguarded)
-    (cond (eqb number 3) (Present prepend.GuardedAlways) (cond (eqb number 4) (Present prepend.GuardedFirst) Absent)))

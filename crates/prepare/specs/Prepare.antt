@@ -1,4 +1,4 @@
--- The call prepare: what is derived of a model once, as two rows of words.
+-- The call prepare: what is derived of a model once, as two rows of words (rule 15.1).
 use Prim.Native.Nat.{ℕ, _+_}
 use mathlib.Core.Bool.{cond, _||_}
 use mathlib.Core.List.{List, [], _∷_, _++_}

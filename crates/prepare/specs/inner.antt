@@ -2,3 +2,4 @@
 pub mod Derive
 pub mod Pairs
 pub mod Walk
+pub mod Read

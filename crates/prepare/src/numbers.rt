@@ -3,7 +3,8 @@ use units::RawPath;
 use units::RawPrepend;
 use units::WordSplit;
 ghost use mathlib.Core.Path.{_≡_};
-ghost use Rattle.prepare.specs.Numbers.{kindNumber, kindFrom, rawPathNumber, rawPathFrom};
+ghost use Rattle.prepare.specs.Numbers.{kindNumber, rawPathNumber};
+ghost use Rattle.prepare.specs.inner.Read.{kindFrom, rawPathFrom};
 
 pub fn kind_number(kind: WordSplit) -> u32
     ensures { λ r. ⌜ r ≡ kindNumber kind ⌝ }

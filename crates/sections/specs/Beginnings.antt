@@ -1,4 +1,4 @@
--- What is derived of the contents of a token list once: the bytes that they begin with, and how long the longest is.
+-- What is derived of the contents of a token list once (rule 15.3): the bytes that they begin with, and how long the longest is.
 use Prim.Native.Nat.{ℕ, max}
 use mathlib.Core.Bool.{Bool, false, cond}
 use mathlib.Core.List.{List, [], _∷_, map}

@@ -1,5 +1,5 @@
 // Added tokens in a text, and the sections between them. Defined in specs/Matches.antt and specs/Sections.antt, for the second list in
-// specs/SecondList.antt.
+// specs/SecondList.antt; the bytes that contents begin with in specs/Beginnings.antt.
 
 pub mod first;
 pub mod seek;

@@ -13,9 +13,8 @@ use Rattle.model.specs.Model.{Model, Row, piecesOf}
 use Rattle.model.specs.Check.{checkNumber}
 use Rattle.model.proofs.Accepted.{Accepted, accepted}
 use Rattle.units.specs.Kinds.{Crossing}
-use Rattle.units.specs.Units.{cutBy}
-use Rattle.units.specs.Adjacency.{pairNoted}
-use Rattle.units.specs.Derived.{namedCrossings}
+use Rattle.units.specs.Units.{beginsUnit}
+use Rattle.units.specs.inner.Read.{pairNoted, namedCrossings}
 use Rattle.units.specs.declared.WordSplit.{WordSplit}
 use Rattle.units.proofs.AdjacencyLaws.{Small}
 use Rattle.merge.specs.Start.{startingIdsBy}
@@ -97,7 +96,7 @@ module _ (m : Model) (fine : checkNumber m ≡ 0) where
   pub cuts-derived : (raw : Bool) (bytes : List ℕ) → cutsIn (tablesOf m) raw bytes ≡ cutsBy m fine raw bytes
   unfolding cutsIn derivedAdjacency piecesOf
   cuts-derived raw bytes =
-      ap₂ (λ (kind : WordSplit) (named : List Crossing). cutBy kind named (pairNoted (derivedAdjacency m)) raw bytes) (kind-read m)
+      ap₂ (λ (kind : WordSplit) (named : List Crossing). beginsUnit kind named (pairNoted (derivedAdjacency m)) raw bytes) (kind-read m)
       (ap₂ (namedCrossings (piecesOf m)) (read 3 67 (crossings-at m)) (count-read m))
 
   starts-meant : {part : Item Stretch} → OfBytes part → partStarts (ownBy m ok) (m .fallback) part ≡ startsOf m part

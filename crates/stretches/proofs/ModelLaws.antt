@@ -19,10 +19,11 @@ use Rattle.model.specs.Mark.{mark}
 use Rattle.model.specs.Check.{checkNumber}
 use Rattle.model.proofs.Accepted.{Accepted, accepted}
 use Rattle.units.specs.Kinds.{kindOf}
-use Rattle.units.specs.Units.{cut, cutBy, units}
-use Rattle.units.specs.Adjacency.{adjacency, pairNoted}
-use Rattle.units.specs.Derived.{noting, namedCrossings}
-use Rattle.units.specs.Next.{unitsFrom}
+use Rattle.units.specs.Units.{cut, beginsUnit, units}
+use Rattle.units.specs.Adjacency.{adjacency}
+use Rattle.units.specs.inner.Read.{pairNoted, namedCrossings}
+use Rattle.units.specs.Derived.{noting}
+use Rattle.units.specs.inner.Next.{unitsFrom}
 use Rattle.units.proofs.AdjacencyLaws.{Small}
 use Rattle.units.proofs.NextLaws.{units-start}
 use Rattle.units.proofs.UnitLaws.{units-join, units-chars}
@@ -127,7 +128,7 @@ module _ (m : Model) (fine : checkNumber m ≡ 0) where
   -- Where a unit starts, by what is derived from the model.
   abbrev pub cutsBy : Bool → List ℕ → ℕ → Bool
   cutsBy raw bytes =
-      cutBy (kindOf m) (namedCrossings (piecesOf m) (noting (piecesOf m) (kindOf m) .noted) (noting (piecesOf m) (kindOf m) .count)) (pairNoted (adjacency (piecesOf m))) raw bytes
+      beginsUnit (kindOf m) (namedCrossings (piecesOf m) (noting (piecesOf m) (kindOf m) .noted) (noting (piecesOf m) (kindOf m) .count)) (pairNoted (adjacency (piecesOf m))) raw bytes
 
   units-derived : (raw : Bool) (bytes : List ℕ) → Small bytes → unitsFrom (cutsBy raw bytes) bytes 0 ≡ units m raw bytes
   units-derived raw bytes small =

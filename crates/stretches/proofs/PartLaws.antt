@@ -17,10 +17,9 @@ use Rattle.utf8.proofs.Places.{empty-by-length, slice-of}
 use Rattle.utf8.proofs.Counts.{count-within}
 use Rattle.utf8.proofs.Characters.{chars-nil, chars-step}
 use Rattle.model.specs.Model.{strings}
-use Rattle.units.specs.Next.{unitsFrom}
-use Rattle.units.specs.Units.{cutBy}
-use Rattle.units.specs.Adjacency.{pairNoted}
-use Rattle.units.specs.Derived.{namedCrossings}
+use Rattle.units.specs.inner.Next.{unitsFrom}
+use Rattle.units.specs.Units.{beginsUnit}
+use Rattle.units.specs.inner.Read.{pairNoted, namedCrossings}
 use Rattle.units.specs.declared.WordSplit.{WordSplit}
 use Rattle.merge.specs.Start.{startingIdsBy, isDroppedBy, asMark, unitChars, withVirtualMark}
 use Rattle.merge.specs.inner.Laid.{ownFound, markedChars, unitSymbols}
@@ -28,7 +27,7 @@ use Rattle.merge.specs.inner.Turns.{rowIn, Merged}
 use Rattle.merge.specs.declared.Symbols.{Symbols}
 use Rattle.merge.proofs.Laying.{length-laid}
 use Rattle.prepare.specs.Layout.{kindAt, crossingCountAt, crossingsAt, markIdAt, shiftAt, firstBytesAt, bucketsAt, firstTokensAt}
-use Rattle.prepare.specs.Numbers.{kindFrom}
+use Rattle.prepare.specs.inner.Read.{kindFrom}
 use Rattle.sections.specs.Sections.{Item, token, plain}
 use Rattle.stretches.specs.Stretches.{Stretch, stretch, held}
 use Rattle.stretches.specs.inner.Writers.{inTurn, unitWriter, stretchWriter, unitWriters}
@@ -88,7 +87,7 @@ stretch-told index pieceBytes pieceOffsets lookup fallback bytes virtual raw roo
 -- The writer by the index.
 pub stretch-found : (t : Tables) (virtual raw : Bool) (bytes out : List ℕ) {kind : WordSplit} {noted firstBytes rowIndex : List ℕ} {count id shift : ℕ} {done : Merged}
     → done
-    ≡ stretchWriter (rowIn (t .left) (t .right) (t .result) (t .rank) rowIndex shift) (ownFound (t .pieceBytes) (t .pieceOffsets) (t .lookup) firstBytes id) (t .fallback) (cutBy kind (namedCrossings (strings (t .pieceBytes) (t .pieceOffsets)) noted count) (pairNoted (t .adjacency)) raw bytes) virtual raw bytes out
+    ≡ stretchWriter (rowIn (t .left) (t .right) (t .result) (t .rank) rowIndex shift) (ownFound (t .pieceBytes) (t .pieceOffsets) (t .lookup) firstBytes id) (t .fallback) (beginsUnit kind (namedCrossings (strings (t .pieceBytes) (t .pieceOffsets)) noted count) (pairNoted (t .adjacency)) raw bytes) virtual raw bytes out
     → kind ≡ kindFrom (getD (t .index) kindAt 0) → count ≡ getD (t .index) crossingCountAt 0 → id ≡ getD (t .index) markIdAt 0 → shift ≡ getD (t .index) shiftAt 0
     → noted ≡ slice crossingsAt markIdAt (t .index) → firstBytes ≡ slice firstBytesAt bucketsAt (t .index) → rowIndex ≡ slice bucketsAt firstTokensAt (t .index)
     → done ≡ stretchIn t virtual raw bytes out

@@ -14,7 +14,7 @@ use Rattle.utf8.specs.Lists.{filter, between, countFrom}
 use Rattle.utf8.proofs.Tests.{either}
 use Rattle.utf8.proofs.Places.{slice-of}
 use Rattle.model.specs.Model.{Row}
-use Rattle.units.specs.Next.{nextUnit, unitsFrom}
+use Rattle.units.specs.inner.Next.{nextUnit, unitsFrom}
 use Rattle.units.proofs.NextLaws.{next-past, next-above, next-within, units-more, units-last}
 use Rattle.merge.specs.Start.{unitChars, withVirtualMark}
 use Rattle.merge.specs.inner.Laid.{markedChars}

@@ -13,10 +13,9 @@ ghost use lib.ListN.{length, take, drop};
 ghost use Rattle.utf8.specs.Lists.{same};
 ghost use Rattle.model.specs.Model.{strings};
 ghost use Rattle.model.specs.Answers.{zeros};
-ghost use Rattle.units.specs.Units.{cutBy};
-ghost use Rattle.units.specs.Adjacency.{pairNoted};
-ghost use Rattle.units.specs.Derived.{namedCrossings};
-ghost use Rattle.units.specs.Next.{unitsFrom};
+ghost use Rattle.units.specs.Units.{beginsUnit};
+ghost use Rattle.units.specs.inner.Read.{pairNoted, namedCrossings};
+ghost use Rattle.units.specs.inner.Next.{unitsFrom};
 ghost use Rattle.merge.specs.inner.Laid.{ownFound};
 ghost use Rattle.merge.specs.inner.Turns.{rowIn, Merged};
 ghost use Rattle.stretches.specs.inner.Writers.{inTurn, unitWriters};
@@ -105,7 +104,7 @@ pub fn encode_repeats(
 ) -> usize
     requires { ⌜ start ≤ length (now section) ⌝ }
     requires { ⌜ (length (now section) < 4294967296) × (length (now out) < 4294967296) ⌝ }
-    ensures { λ n. ⌜ _≡_ {A = Merged} (record { count = n; ids = now (out .exit) }) (inTurn (unitWriters (rowIn (now (left .entry)) (now (right .entry)) (now (result .entry)) (now (rank .entry)) (now («row_index» .entry)) shift) (ownFound (now («piece_bytes» .entry)) (now («piece_offsets» .entry)) (now (lookup .entry)) (now («first_bytes» .entry)) «mark_id») (now (fallback .entry)) false raw (unitsFrom (cutBy kind (namedCrossings (strings (now («piece_bytes» .entry)) (now («piece_offsets» .entry))) (now (noted .entry)) count) (pairNoted (now (adjacency .entry))) raw (now (section .entry))) (now (section .entry)) start)) (now (out .entry))) ⌝ }
+    ensures { λ n. ⌜ _≡_ {A = Merged} (record { count = n; ids = now (out .exit) }) (inTurn (unitWriters (rowIn (now (left .entry)) (now (right .entry)) (now (result .entry)) (now (rank .entry)) (now («row_index» .entry)) shift) (ownFound (now («piece_bytes» .entry)) (now («piece_offsets» .entry)) (now (lookup .entry)) (now («first_bytes» .entry)) «mark_id») (now (fallback .entry)) false raw (unitsFrom (beginsUnit kind (namedCrossings (strings (now («piece_bytes» .entry)) (now («piece_offsets» .entry))) (now (noted .entry)) count) (pairNoted (now (adjacency .entry))) raw (now (section .entry))) (now (section .entry)) start)) (now (out .entry))) ⌝ }
 {
     let none = Seen {
         start: 0,

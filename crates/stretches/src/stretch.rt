@@ -16,10 +16,9 @@ ghost use Prim.Native.Nat.{_≤_};
 ghost use lib.Dec.{ltb};
 ghost use lib.ListN.{length};
 ghost use Rattle.model.specs.Model.{strings};
-ghost use Rattle.units.specs.Units.{cutBy};
-ghost use Rattle.units.specs.Adjacency.{pairNoted};
-ghost use Rattle.units.specs.Derived.{namedCrossings};
-ghost use Rattle.units.specs.Next.{unitsFrom};
+ghost use Rattle.units.specs.Units.{beginsUnit};
+ghost use Rattle.units.specs.inner.Read.{pairNoted, namedCrossings};
+ghost use Rattle.units.specs.inner.Next.{unitsFrom};
 ghost use Rattle.merge.specs.inner.Laid.{ownFound};
 ghost use Rattle.merge.specs.inner.Turns.{rowIn, Merged};
 ghost use Rattle.stretches.specs.inner.Writers.{inTurn, unitWriters, stretchWriter};
@@ -70,7 +69,7 @@ fn encode_rest(
     out: &mut [u32],
 ) -> usize
     requires { ⌜ start ≤ length (now section) ⌝ }
-    ensures { λ n. ⌜ _≡_ {A = Merged} (record { count = n; ids = now (out .exit) }) (inTurn (unitWriters (rowIn (now (left .entry)) (now (right .entry)) (now (result .entry)) (now (rank .entry)) (now («row_index» .entry)) shift) (ownFound (now («piece_bytes» .entry)) (now («piece_offsets» .entry)) (now (lookup .entry)) (now («first_bytes» .entry)) «mark_id») (now (fallback .entry)) false raw (unitsFrom (cutBy kind (namedCrossings (strings (now («piece_bytes» .entry)) (now («piece_offsets» .entry))) (now (noted .entry)) count) (pairNoted (now (adjacency .entry))) raw (now (section .entry))) (now (section .entry)) start)) (now (out .entry))) ⌝ }
+    ensures { λ n. ⌜ _≡_ {A = Merged} (record { count = n; ids = now (out .exit) }) (inTurn (unitWriters (rowIn (now (left .entry)) (now (right .entry)) (now (result .entry)) (now (rank .entry)) (now («row_index» .entry)) shift) (ownFound (now («piece_bytes» .entry)) (now («piece_offsets» .entry)) (now (lookup .entry)) (now («first_bytes» .entry)) «mark_id») (now (fallback .entry)) false raw (unitsFrom (beginsUnit kind (namedCrossings (strings (now («piece_bytes» .entry)) (now («piece_offsets» .entry))) (now (noted .entry)) count) (pairNoted (now (adjacency .entry))) raw (now (section .entry))) (now (section .entry)) start)) (now (out .entry))) ⌝ }
 {
     if remembers(section.len(), out.len()) {
         return encode_repeats(
@@ -143,7 +142,7 @@ pub fn encode_units(
     virtual_mark: bool,
     out: &mut [u32],
 ) -> usize
-    ensures { λ n. ⌜ _≡_ {A = Merged} (record { count = n; ids = now (out .exit) }) (stretchWriter (rowIn (now (left .entry)) (now (right .entry)) (now (result .entry)) (now (rank .entry)) (now («row_index» .entry)) shift) (ownFound (now («piece_bytes» .entry)) (now («piece_offsets» .entry)) (now (lookup .entry)) (now («first_bytes» .entry)) «mark_id») (now (fallback .entry)) (cutBy kind (namedCrossings (strings (now («piece_bytes» .entry)) (now («piece_offsets» .entry))) (now (noted .entry)) count) (pairNoted (now (adjacency .entry))) raw (now (section .entry))) «virtual_mark» raw (now (section .entry)) (now (out .entry))) ⌝ }
+    ensures { λ n. ⌜ _≡_ {A = Merged} (record { count = n; ids = now (out .exit) }) (stretchWriter (rowIn (now (left .entry)) (now (right .entry)) (now (result .entry)) (now (rank .entry)) (now («row_index» .entry)) shift) (ownFound (now («piece_bytes» .entry)) (now («piece_offsets» .entry)) (now (lookup .entry)) (now («first_bytes» .entry)) «mark_id») (now (fallback .entry)) (beginsUnit kind (namedCrossings (strings (now («piece_bytes» .entry)) (now («piece_offsets» .entry))) (now (noted .entry)) count) (pairNoted (now (adjacency .entry))) raw (now (section .entry))) «virtual_mark» raw (now (section .entry)) (now (out .entry))) ⌝ }
 {
     let next = next_unit(
         kind,

@@ -112,7 +112,7 @@ unfolding Chars.charForms Chars.charWidth Chars.chars Chars.isChar Chars.valid C
     Spaces.spacesMarked Spaces.schemePrepends Spaces.markPrepended Spaces.metaspaceOutput Spaces.metaspaced
     Normalise.normalised Normalise.outgrows Normalise.normaliseOutputs Normalise.normaliseNumber Normalise.normaliseOutcome
     Kinds.crossesAt Kinds.crossingAt Kinds.crossingsOf Kinds.crossings Kinds.holdsMark Kinds.isTangled Kinds.splits Kinds.wordSplit Kinds.kindOf Kinds.isPrependMark Kinds.isSpaceReplace Kinds.isPresent Kinds.prependOf Kinds.rawPathOf Kinds.isNone Kinds.rawPath Kinds.hasRawPath
-    Units.spanned Units.markCuts Units.punctuation Units.holdsPair Units.byteBefore Units.punctuationCuts Units.cutBy Units.cut Units.units
+    Units.spanned Units.markCuts Units.punctuation Units.holdsPair Units.byteBefore Units.punctuationCuts Units.beginsUnit Units.cut Units.units
     Adjacency.bits Adjacency.adjacencyWord Adjacency.adjacency
     Derived.placesWithin Derived.placesIn Derived.crossingPlaces Derived.notedOf Derived.placeWords Derived.notedWords Derived.noting
     Index.firstByteStart Index.firstBytes Index.keyId Index.markId Index.byteId Index.byteIds Index.pieceIndex Index.bucketShift Index.bucketStart Index.buckets Index.pairSlot Index.secondSlot Index.slotRows Index.slotWord Index.tableWords Index.pairWords Index.unnamed Index.secondWords Index.pairTables Index.rowIndex
@@ -128,9 +128,9 @@ unfolding Chars.charForms Chars.charWidth Chars.chars Chars.isChar Chars.valid C
     Stretches.stretch Stretches.stretchUnits Stretches.unitIds Stretches.idsOf Stretches.dropsOf Stretches.startsOf
     Parts.prependsMark Parts.virtualMark Parts.rawStretch Parts.normalStretch Parts.normalPartsOf Parts.stretchesOf Parts.parts
     Encode.encodedIds Encode.drops Encode.startingCount Encode.metaspaceOutputOf Encode.sectionOutputs Encode.encodeOutputs Encode.encodeNumber Encode.encodeOutcome
-    Safe.isUnguarded Safe.blocks Safe.blockStart Safe.blockEnd Safe.block Safe.blockedBy Safe.isBlocked Safe.isSafe
+    Safe.isUnguarded Safe.makesBlocks Safe.blockStart Safe.blockEnd Safe.block Safe.blockedBy Safe.isBlocked Safe.isSafe
     Fragments.cuts Fragments.ranges Fragments.rangeNumbers Fragments.fragmentsNumber Fragments.fragmentsOutcome
-    Decode.hasPiece Decode.joinedBytes Decode.skips Decode.replacement Decode.straysReplaced Decode.marksSpaced Decode.prependsMark Decode.isPrepend Decode.prependsSpace Decode.leadingSpaceGone Decode.decodedBytes Decode.decodeNumber Decode.decodeOutcome
+    Decode.hasPiece Decode.joinedBytes Decode.skips Decode.replacement Decode.straysReplaced Decode.marksSpaced Decode.schemePrepends Decode.isPrepend Decode.prependsSpace Decode.leadingSpaceGone Decode.decodedBytes Decode.decodeNumber Decode.decodeOutcome
     withoutScratch withBoth withRows left sameAnswer sameLent
 agrees c =
     let l = left (c .model) (c .call) (c .before) in

@@ -11,7 +11,7 @@ use Rattle.model.specs.Check.{checkNumber}
 use Rattle.model.specs.declared.Metaspace.the-variants.{Present}
 use Rattle.model.specs.declared.PrependScheme.the-variants.{Always}
 use Rattle.units.specs.Kinds.{crossings, kindOf}
-use Rattle.units.specs.Units.{holdsPair, cutBy}
+use Rattle.units.specs.Units.{holdsPair, beginsUnit}
 use Rattle.units.specs.declared.WordSplit.{WordSplit}
 use Rattle.units.specs.declared.WordSplit.the-variants.{SpaceRuns, EveryMark, None}
 use Rattle.merge.specs.Start.{vocabularyOf, isDropped, unitChars, withVirtualMark}
@@ -23,7 +23,7 @@ use Rattle.theorems.specs.UnitsKeepIds.{allChars, unsplitIds, markSectio
 -- The ids of units that are cut as a kind says, each unit merged by itself.
 unfoldable pub apartBy : WordSplit → Model → Stretch → List ℕ
 apartBy kind m s =
-    let places = filter (cutBy kind (crossings (piecesOf m)) (holdsPair (piecesOf m)) (s .raw) (s .bytes)) (below (length (s .bytes))) in
+    let places = filter (beginsUnit kind (crossings (piecesOf m)) (holdsPair (piecesOf m)) (s .raw) (s .bytes)) (below (length (s .bytes))) in
     joinMap (unitIds m) (withVirtualMark (s .virtual) (map (unitChars (s .raw)) (between (0 ∷ places ++ (length (s .bytes) ∷ [])) (s .bytes))))
 
 unfoldable pub sameKind : WordSplit → WordSplit → Bool
@@ -108,7 +108,7 @@ example m kind number bytes virtual dropped unitsBy sectionsBy apart unsplit =
       unsplit = unsplit;
     }
 
--- Nothing dropped: `bc a`, where U has no `c`. The prefix not dropped. An accepted model: `é a` with a piece that 3 refuses. The
+-- Nothing dropped: `bc a`, where U has no `c`. The virtual mark not dropped. An accepted model: `é a` with a piece that 3 refuses. The
 -- model's own kind: `b  a` cut as SpaceRuns, where it is None. From mark to mark: `b a` of EveryMark as one section.
 unfoldable pub needed : List Example
 needed =

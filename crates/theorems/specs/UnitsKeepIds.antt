@@ -20,7 +20,7 @@ use Rattle.stretches.specs.Stretches.{Stretch, stretchUnits}
 use Rattle.encode.specs.Parts.{parts}
 use Rattle.encode.specs.Encode.{drops, encodedIds}
 
--- The characters of a stretch, with its prefix in front, as they are to be spelled. It knows nothing of units.
+-- The characters of a stretch, with its virtual mark in front, as they are to be spelled. It knows nothing of units.
 unfoldable pub allChars : Stretch → List (List ℕ)
 allChars s = cond (s .virtual) (mark ∷ unitChars (s .raw) (s .bytes)) (unitChars (s .raw) (s .bytes))
 
@@ -28,7 +28,7 @@ allChars s = cond (s .virtual) (mark ∷ unitChars (s .raw) (s .bytes)) (unitCha
 unfoldable pub unsplitIds : Model → Stretch → List ℕ
 unsplitIds m s = merged (rowOf (mergeRows m)) (joinMap (startingIds (vocabularyOf m)) (allChars s))
 
--- What is merged unsplit: the stretch as one section; for EveryMark its stretches from mark to mark, of which the first has the prefix.
+-- What is merged unsplit: the stretch as one section; for EveryMark what lies from mark to mark, of which the first has the virtual mark.
 unfoldable pub markSections : Bool → Bool → List (List ℕ) → List Stretch
 markSections raw virtual [] = []
 markSections raw virtual (bytes ∷ others) =
@@ -63,11 +63,11 @@ Ended m units = (after : List (List ℕ)) → Turn m units after → ⊥
 unfoldable pub unitStarts : Model → Stretch → List (List ℕ)
 unitStarts m s = map (joinMap (startingIds (vocabularyOf m))) (stretchUnits m s)
 
--- The bytes of a stretch after its prefix, each raw space shown as the mark.
+-- The bytes of a stretch after its virtual mark, each raw space shown as a mark.
 unfoldable pub shownBytes : Stretch → List ℕ
 shownBytes s = cond (s .virtual) mark [] ++ joinMap (λ (b : ℕ). cond (s .raw && eqb b 0x20) mark (b ∷ [])) (s .bytes)
 
--- In an accepted model, where no character and no prefix is dropped, every run of the units of a stretch that has ended has the ids
+-- In an accepted model, where no character and no virtual mark is dropped, every run of the units of a stretch that has ended has the ids
 -- that its sections have unsplit, and their pieces joined spell the stretch.
 abbrev pub UnitsKeepIds : Type 0
 UnitsKeepIds =

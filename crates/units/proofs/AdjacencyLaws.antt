@@ -20,7 +20,8 @@ use Rattle.utf8.proofs.Places.{any-append, getD-inside, length-countFrom, getD-
 use Rattle.model.specs.Model.{strings}
 use Rattle.model.specs.Answers.{zeros}
 use Rattle.units.specs.Units.{holdsPair}
-use Rattle.units.specs.Adjacency.{bits, adjacencyWord, adjacency, pairNoted}
+use Rattle.units.specs.Adjacency.{bits, adjacencyWord, adjacency}
+use Rattle.units.specs.inner.Read.{pairNoted}
 use Rattle.units.specs.inner.Notes.{noRows, note, noteAll}
 use Rattle.units.proofs.BitLaws.{digit-says, bits-same, bits-none, bits-set, bit-at}
 

@@ -18,7 +18,7 @@ use Rattle.utf8.proofs.Starts.{starts-front}
 use Rattle.model.specs.Mark.{mark, markWidth, startsWithMark, endsWithMark}
 use Rattle.units.specs.Kinds.{crossesAt, crossingAt, holdsMark, isTangled}
 use Rattle.units.specs.Derived.{placesWithin}
-use Rattle.units.specs.Next.{placesAbove, nextUnit}
+use Rattle.units.specs.inner.Next.{placesAbove, nextUnit}
 use Rattle.units.specs.declared.Crossed.the-variants.{Nowhere, At, Tangled}
 use Rattle.units.specs.inner.Crossed.{crossedBy, crossed}
 use Rattle.units.proofs.NextLaws.{searchFrom, search-start, search-next, search-ended, Searched, none-passes, passes, searched}

@@ -25,7 +25,7 @@ use Rattle.model.specs.Mark.{mark, space, markWidth, startsWithMark, endsWithMa
 use Rattle.model.proofs.CheckLaws.{has-id}
 use Rattle.model.proofs.ReachLaws.{piece-valid, NoPieceOver}
 use Rattle.units.specs.Kinds.{Crossing, crossesAt, crossingAt, crossingsOf, crossings, holdsMark, isTangled, splits, wordSplit, isNone, kindOf}
-use Rattle.units.specs.Units.{spanned, markCuts, punctuation, holdsPair, byteBefore, punctuationCuts, cutBy, cut}
+use Rattle.units.specs.Units.{spanned, markCuts, punctuation, holdsPair, byteBefore, punctuationCuts, beginsUnit, cut}
 use Rattle.units.specs.declared.WordSplit.{WordSplit}
 use Rattle.units.specs.declared.WordSplit.the-variants.{SpaceRuns, EveryMark, None}
 use Rattle.units.proofs.ShownLaws.{shownByte, shown, prefix, shown-append, shown-mark, shown-unmarked, mark-held, Complete, shown-start, shown-end, shown-plain, shown-ends-mark}
@@ -290,8 +290,8 @@ pub record CutAt (kind : WordSplit) (noted : List Crossing) (holds : ℕ → ℕ
   pub behind : 0 < i
   pub either : (markCuts kind noted raw section i ≡ true) ⊎ PunctuationAt holds raw section i
 
-pub cut-at : (kind : WordSplit) (noted : List Crossing) (holds : ℕ → ℕ → Bool) (raw : Bool) (section : List ℕ) (i : ℕ) → cutBy kind noted holds raw section i ≡ true → CutAt kind noted holds raw section i
-unfolding cutBy punctuationCuts
+pub cut-at : (kind : WordSplit) (noted : List Crossing) (holds : ℕ → ℕ → Bool) (raw : Bool) (section : List ℕ) (i : ℕ) → beginsUnit kind noted holds raw section i ≡ true → CutAt kind noted holds raw section i
+unfolding beginsUnit punctuationCuts
 cut-at kind noted holds raw section i e =
     let marks = markCuts kind noted raw section i in
     let points = punctuationCuts kind holds raw section i in

@@ -19,9 +19,10 @@ use Rattle.model.specs.Check.{wrongPieceSizes, wrongRowSizes, wrongListSizes, w
 use Rattle.model.proofs.StringLaws.{length-strings}
 use Rattle.model.proofs.Accepted.{piece-limit, byte-limit}
 use Rattle.units.specs.Kinds.{crossesAt, crossings, kindOf}
-use Rattle.units.specs.Units.{holdsPair, markCuts, byteBefore, punctuationCuts, cutBy, cut}
-use Rattle.units.specs.Adjacency.{adjacency, pairNoted}
-use Rattle.units.specs.Derived.{Place, placesWithin, placesIn, crossingPlaces, crossingOf, notedOf, placeWords, notedWords, placesOf, namedCrossings, noting}
+use Rattle.units.specs.Units.{holdsPair, markCuts, byteBefore, punctuationCuts, beginsUnit, cut}
+use Rattle.units.specs.Adjacency.{adjacency}
+use Rattle.units.specs.inner.Read.{pairNoted, crossingOf, placesOf, namedCrossings}
+use Rattle.units.specs.Derived.{Place, placesWithin, placesIn, crossingPlaces, notedOf, placeWords, notedWords, noting}
 use Rattle.units.specs.declared.WordSplit.{WordSplit}
 use Rattle.units.specs.declared.WordSplit.the-variants.{SpaceRuns, EveryMark, None}
 use Rattle.units.proofs.AdjacencyLaws.{Small, pair-noted}
@@ -124,9 +125,9 @@ punctuation-derived pieces kind raw section h p = rw (pair-noted pieces (byteBef
 
 -- What the derived tables of a model with fine piece sizes decide is what the model decides, for a section of bytes.
 pub cut-derived : (m : Model) → wrongPieceSizes (m .pieceBytes) (m .pieceOffsets) ≡ false → (raw : Bool) (section : List ℕ) → Small section → (p : ℕ)
-    → cutBy (kindOf m) (namedCrossings (piecesOf m) (noting (piecesOf m) (kindOf m) .noted) (noting (piecesOf m) (kindOf m) .count)) (pairNoted (adjacency (piecesOf m))) raw section p
+    → beginsUnit (kindOf m) (namedCrossings (piecesOf m) (noting (piecesOf m) (kindOf m) .noted) (noting (piecesOf m) (kindOf m) .count)) (pairNoted (adjacency (piecesOf m))) raw section p
     ≡ cut m raw section p
-unfolding cut cutBy piecesOf
+unfolding cut beginsUnit piecesOf
 cut-derived m e raw section h p =
     ap₂ (λ (a b : Bool). ltb 0 p && (a || b))
     (marks-derived (piecesOf m) (fit-accepted (m .pieceBytes) (m .pieceOffsets) e) (kindOf m) raw section p)

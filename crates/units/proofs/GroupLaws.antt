@@ -24,7 +24,7 @@ use Rattle.model.proofs.ReachLaws.{NoPieceOver, StringsApart, over-nothing}
 use Rattle.units.specs.declared.WordSplit.{WordSplit}
 use Rattle.units.specs.declared.WordSplit.the-variants.{EveryMark}
 use Rattle.units.specs.Kinds.{crossings, kindOf}
-use Rattle.units.specs.Units.{holdsPair, markCuts, punctuationCuts, cutBy, cut, units}
+use Rattle.units.specs.Units.{holdsPair, markCuts, punctuationCuts, beginsUnit, cut, units}
 use Rattle.units.proofs.ShownLaws.{shownByte, shown, prefix, shown-append}
 use Rattle.units.proofs.CutLaws.{cut-at, cut-clear, mark-is, punctuation-uncrossed}
 use Rattle.units.proofs.UnitLaws.{spelledUnits, partsFrom, part-ends, parts-join, part-before}
@@ -186,12 +186,12 @@ markStretches raw section = partsFrom (λ (p : ℕ). ltb 0 p && startsWithMark r
 
 module _ (m : Model) (raw : Bool) (section : List ℕ) (every : kindOf m ≡ EveryMark) where
   mark-cuts : (i : ℕ) → (ltb 0 i && startsWithMark raw (drop i section)) ≡ true → cut m raw section i ≡ true
-  unfolding cut cutBy markCuts
+  unfolding cut beginsUnit markCuts
   mark-cuts i e =
       let noted = crossings (piecesOf m) in
       let holds = holdsPair (piecesOf m) in
       let a = startsWithMark raw (drop i section) in
-      ap (λ (k : WordSplit). cutBy k noted holds raw section i) every
+      ap (λ (k : WordSplit). beginsUnit k noted holds raw section i) every
       ∙ and-both (and-left (ltb 0 i) a e) (ap (λ (b : Bool). b || punctuationCuts EveryMark holds raw section i) (and-right (ltb 0 i) a e))
 
   other-cuts : (virtual : Bool) (i : ℕ) → cut m raw section i ≡ true → (ltb 0 i && startsWithMark raw (drop i section)) ≡ false

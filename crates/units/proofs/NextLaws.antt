@@ -10,8 +10,8 @@ use lib.ListN.{length}
 use lib.Seq.{slice}
 use Rattle.utf8.specs.Lists.{find, filter, between, countFrom}
 use Rattle.model.specs.Model.{Model}
-use Rattle.units.specs.Units.{cut, cutBy, units}
-use Rattle.units.specs.Next.{placesAbove, orEnd, nextUnit, unitsFrom}
+use Rattle.units.specs.Units.{cut, beginsUnit, units}
+use Rattle.units.specs.inner.Next.{placesAbove, orEnd, nextUnit, unitsFrom}
 
 module _ (cuts : ℕ → Bool) (section : List ℕ) where
   -- What the places from p on give.
@@ -123,7 +123,7 @@ module _ (cuts : ℕ → Bool) (section : List ℕ) where
         go r (passes l m c f) k = absurd (omega arith)
 
 uncut-start : (m : Model) (raw : Bool) (section : List ℕ) → cut m raw section 0 ≡ false
-unfolding cut cutBy
+unfolding cut beginsUnit
 uncut-start m raw section = refl
 
 -- A model's units are those from the section's start on.

@@ -20,7 +20,8 @@ use Rattle.model.specs.Model.{piece}
 use Rattle.model.specs.declared.Metaspace.{Metaspace}
 use Rattle.model.specs.declared.Metaspace.the-variants.{Absent}
 use Rattle.units.specs.Kinds.{Crossing, crossesAt, crossingAt, crossingsOf, crossings, isTangled, splits, wordSplit}
-use Rattle.units.specs.Derived.{Place, placesWithin, placesIn, crossingPlaces, crossingOf, notedOf, placeWords, notedWords, Noting, noting}
+use Rattle.units.specs.Derived.{Place, placesWithin, placesIn, crossingPlaces, notedOf, placeWords, notedWords, Noting, noting}
+use Rattle.units.specs.inner.Read.{crossingOf}
 use Rattle.units.specs.declared.WordSplit.the-variants.{SpaceRuns, EveryMark, None}
 use Rattle.units.specs.declared.Crossed.the-variants.{Nowhere, At, Tangled}
 use Rattle.units.specs.inner.Crossed.{crossed, noWords, notedAt}

@@ -12,7 +12,7 @@ use Rattle.model.specs.Mark.{markWidth}
 use Rattle.model.specs.Model.{piece}
 use Rattle.units.specs.Kinds.{Crossing, crossingAt}
 use Rattle.units.specs.Units.{spanned}
-use Rattle.units.specs.Derived.{placesOf, crossingOf, namedCrossings}
+use Rattle.units.specs.inner.Read.{placesOf, crossingOf, namedCrossings}
 use Rattle.units.specs.inner.Around.{around}
 
 -- ---- the crossings that words name

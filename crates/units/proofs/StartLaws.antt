@@ -12,7 +12,7 @@ use Rattle.utf8.specs.Lists.{any}
 use Rattle.utf8.proofs.Tests.{either, clash, or-left, or-right}
 use Rattle.model.specs.Mark.{mark, space, markWidth, startsWithMark, endsWithMark}
 use Rattle.units.specs.Kinds.{Crossing, isNone}
-use Rattle.units.specs.Units.{spanned, markCuts, punctuation, byteBefore, punctuationCuts, cutBy}
+use Rattle.units.specs.Units.{spanned, markCuts, punctuation, byteBefore, punctuationCuts, beginsUnit}
 use Rattle.units.specs.declared.WordSplit.{WordSplit}
 use Rattle.units.specs.declared.WordSplit.the-variants.{SpaceRuns, EveryMark, None}
 use Rattle.units.specs.inner.Around.{starters}
@@ -87,29 +87,29 @@ module _ (kind : WordSplit) (holds : ℕ → ℕ → Bool) (raw : Bool) (section
 -- ---- both
 
 module _ (kind : WordSplit) (noted : List Crossing) (holds : ℕ → ℕ → Bool) (raw : Bool) (section : List ℕ) (p : ℕ) where
-  pub uncut-first : p ≡ 0 → cutBy kind noted holds raw section p ≡ false
-  unfolding cutBy
+  pub uncut-first : p ≡ 0 → beginsUnit kind noted holds raw section p ≡ false
+  unfolding beginsUnit
   uncut-first e = rw e
 
-  neither : markWidth raw (drop p section) ≡ 0 → any (eqb (getD section p 0)) punctuation ≡ false → cutBy kind noted holds raw section p ≡ false
-  unfolding cutBy
+  neither : markWidth raw (drop p section) ≡ 0 → any (eqb (getD section p 0)) punctuation ≡ false → beginsUnit kind noted holds raw section p ≡ false
+  unfolding beginsUnit
   neither e f = rw (uncut-no-mark noted raw section p kind e, uncut-no-punctuation kind holds raw section p f) (and-false (ltb 0 p))
 
-  pub uncut-past : length section ≤ p → cutBy kind noted holds raw section p ≡ false
+  pub uncut-past : length section ≤ p → beginsUnit kind noted holds raw section p ≡ false
   unfolding punctuation
   uncut-past h = neither (no-mark-past raw section p h) (rw (List·getD-eq-default section 0 h))
 
-  pub cut-punctuation : 0 < p → p < length section → any (eqb (getD section p 0)) punctuation ≡ true → punctuationCuts kind holds raw section p ≡ cutBy kind noted holds raw section p
-  unfolding cutBy punctuation
+  pub cut-punctuation : 0 < p → p < length section → any (eqb (getD section p 0)) punctuation ≡ true → punctuationCuts kind holds raw section p ≡ beginsUnit kind noted holds raw section p
+  unfolding beginsUnit punctuation
   cut-punctuation h l e =
       let b = getD section p 0 in
       rw (lt-ltb 0 p h, uncut-no-mark noted raw section p kind (no-mark-byte raw section p l (punctuation-no-mark b e 0xE2 refl) (punctuation-no-mark b e 0x20 refl)))
 
-  pub cut-mark : 0 < p → any (eqb (getD section p 0)) punctuation ≡ false → markCuts kind noted raw section p ≡ cutBy kind noted holds raw section p
-  unfolding cutBy
+  pub cut-mark : 0 < p → any (eqb (getD section p 0)) punctuation ≡ false → markCuts kind noted raw section p ≡ beginsUnit kind noted holds raw section p
+  unfolding beginsUnit
   cut-mark h e = rw (lt-ltb 0 p h, uncut-no-punctuation kind holds raw section p e) (sym (or-false (markCuts kind noted raw section p)))
 
-  pub uncut-byte : p < length section → any (eqb (getD section p 0)) starters ≡ false → cutBy kind noted holds raw section p ≡ false
+  pub uncut-byte : p < length section → any (eqb (getD section p 0)) starters ≡ false → beginsUnit kind noted holds raw section p ≡ false
   unfolding starters
   uncut-byte h e =
       let b = getD section p 0 in

@@ -1,9 +1,7 @@
--- The byte-adjacency rows: which bytes stand side by side in some piece, as bits.
+-- The byte-adjacency rows: which bytes stand side by side in some piece, as bits (rule 15.2).
 use Prim.Native.Nat.{ℕ, zero, suc, _+_, _*_, _/_, _%_, _^_}
 use mathlib.Core.Bool.{Bool, cond}
 use mathlib.Core.List.{List, map}
-use lib.Dec.{eqb}
-use lib.ListN.{getD}
 use Rattle.utf8.specs.Lists.{below}
 use Rattle.units.specs.Units.{holdsPair}
 
@@ -18,7 +16,3 @@ adjacencyWord pieces i = bits (λ (b : ℕ). holdsPair pieces (i / 4) (i % 4 * 6
 
 unfoldable pub adjacency : List (List ℕ) → List ℕ
 adjacency pieces = map (adjacencyWord pieces) (below 1024)
-
--- What rows of such words say of the bytes x and y; words that are missing are 0.
-unfoldable pub pairNoted : List ℕ → ℕ → ℕ → Bool
-pairNoted rows x y = eqb (getD rows (x * 4 + y / 64) 0 / 2 ^ (y % 64) % 2) 1

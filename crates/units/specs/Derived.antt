@@ -1,19 +1,14 @@
--- What is derived from a model once, as numbers: the kind of split with the crossings that it needs, and the raw path.
+-- What is derived from a model once, as numbers (rule 15.3): the kind of split with the crossings that it needs.
 use Prim.Native.Nat.{ℕ, _-_, _%_}
-use mathlib.Core.Bool.{Bool, not, cond, _||_}
+use mathlib.Core.Bool.{cond}
 use mathlib.Core.List.{List, [], _∷_, _++_, map}
-use lib.ListN.{length, take}
+use lib.ListN.{length}
 use Rattle.utf8.specs.Lists.{filter, joinMap, numbered, below}
 use Rattle.utf8.specs.Chars.{valid}
-use Rattle.model.specs.Model.{piece}
 use Rattle.model.specs.Answers.{zeros}
-use Rattle.model.specs.declared.Step.{Step}
-use Rattle.model.specs.declared.Metaspace.{Metaspace}
-use Rattle.units.specs.Kinds.{Crossing, crossesAt, crossingAt, isNone, rawPathOf}
+use Rattle.units.specs.Kinds.{crossesAt}
 use Rattle.units.specs.declared.WordSplit.{WordSplit}
 use Rattle.units.specs.declared.WordSplit.the-variants.{SpaceRuns, EveryMark, None}
-use Rattle.units.specs.declared.RawPath.{RawPath}
-use Rattle.units.specs.declared.RawPath.the-variants as raw
 
 -- A crossing by the id of its piece and the place of its mark there.
 abbrev pub Place : Type 0
@@ -30,9 +25,6 @@ placesIn p = map (λ (place : ℕ). (p .0, place)) (placesWithin (p .1))
 unfoldable pub crossingPlaces : List (List ℕ) → List Place
 crossingPlaces pieces = joinMap placesIn (numbered pieces)
 
-unfoldable pub crossingOf : List (List ℕ) → Place → Crossing
-crossingOf pieces place = crossingAt (piece pieces (place .0)) (place .1)
-
 -- The crossings that a kind of split looks at.
 unfoldable pub notedOf : WordSplit → List (List ℕ) → List Place
 notedOf SpaceRuns pieces = crossingPlaces pieces
@@ -47,16 +39,6 @@ placeWords place = place .0 % 4294967296 ∷ place .1 % 4294967296 ∷ []
 unfoldable pub notedWords : List Place → List ℕ
 notedWords places = let words = joinMap placeWords places in words ++ zeros (64 - length words)
 
--- The places that such words name, two words a place.
-unfoldable pub placesOf : List ℕ → List Place
-placesOf [] = []
-placesOf (id ∷ []) = []
-placesOf (id ∷ place ∷ words) = (id, place) ∷ placesOf words
-
--- The crossings that the first words name, as many as count says.
-unfoldable pub namedCrossings : List (List ℕ) → List ℕ → ℕ → List Crossing
-namedCrossings pieces words count = map (crossingOf pieces) (take count (placesOf words))
-
 -- A kind of split with what it needs, as numbers.
 pub record Noting : Type 0 where
   pub kind : WordSplit
@@ -65,7 +47,3 @@ pub record Noting : Type 0 where
 
 unfoldable pub noting : List (List ℕ) → WordSplit → Noting
 noting pieces kind = record { kind = kind; count = length (notedOf kind pieces); noted = notedWords (notedOf kind pieces) }
-
--- The raw path by the kind, and whether the second token list is empty.
-unfoldable pub rawPathBy : WordSplit → Bool → List ℕ → List Step → Metaspace → RawPath
-rawPathBy kind empty bytes steps metaspace = cond (isNone kind || not empty) raw.Absent (rawPathOf bytes steps metaspace)

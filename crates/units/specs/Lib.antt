@@ -2,5 +2,4 @@ pub mod Kinds
 pub mod Units
 pub mod Adjacency
 pub mod Derived
-pub mod Next
 pub mod inner

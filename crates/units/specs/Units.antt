@@ -41,11 +41,11 @@ punctuationCuts kind holds raw section p =
     not (isNone kind) && any (eqb (getD section p 0)) punctuation && not (holds (byteBefore raw section p) (getD section p 0))
 
 -- Rule 8.1: a unit begins at p. What a model decides is given: its kind, its crossings, which pairs of bytes its pieces hold.
-unfoldable pub cutBy : WordSplit → List Crossing → (ℕ → ℕ → Bool) → Bool → List ℕ → ℕ → Bool
-cutBy kind noted holds raw section p = ltb 0 p && (markCuts kind noted raw section p || punctuationCuts kind holds raw section p)
+unfoldable pub beginsUnit : WordSplit → List Crossing → (ℕ → ℕ → Bool) → Bool → List ℕ → ℕ → Bool
+beginsUnit kind noted holds raw section p = ltb 0 p && (markCuts kind noted raw section p || punctuationCuts kind holds raw section p)
 
 unfoldable pub cut : Model → Bool → List ℕ → ℕ → Bool
-cut m raw section p = cutBy (kindOf m) (crossings (piecesOf m)) (holdsPair (piecesOf m)) raw section p
+cut m raw section p = beginsUnit (kindOf m) (crossings (piecesOf m)) (holdsPair (piecesOf m)) raw section p
 
 -- The section cut at all such places.
 unfoldable pub units : Model → Bool → List ℕ → List (List ℕ)

@@ -2,3 +2,6 @@
 pub mod Notes
 pub mod Around
 pub mod Crossed
+pub mod Next
+pub mod Path
+pub mod Read

@@ -5,7 +5,8 @@ use utf8::bytes::wide;
 ghost use mathlib.Core.Path.{_≡_};
 ghost use Rattle.utf8.specs.Lists.{neighbours};
 ghost use Rattle.model.specs.Model.{strings};
-ghost use Rattle.units.specs.Adjacency.{adjacency, pairNoted};
+ghost use Rattle.units.specs.Adjacency.{adjacency};
+ghost use Rattle.units.specs.inner.Read.{pairNoted};
 ghost use Rattle.units.specs.inner.Notes.{noRows, note, noteAll};
 
 fn clear(rows: &mut [u64; 1024])

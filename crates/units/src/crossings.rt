@@ -16,7 +16,7 @@ ghost use Rattle.model.specs.Model.{strings};
 ghost use Rattle.model.specs.declared.Metaspace.the-variants.{Absent};
 ghost use Rattle.units.specs.Kinds.{crossesAt, crossingAt, holdsMark, isTangled, splits, crossings, wordSplit};
 ghost use Rattle.units.specs.Derived.{Noting, noting};
-ghost use Rattle.units.specs.Next.{nextUnit};
+ghost use Rattle.units.specs.inner.Next.{nextUnit};
 ghost use Rattle.units.specs.inner.Crossed.{crossed, noWords, notedAt};
 
 // Whether a mark or a space stands among the bytes.

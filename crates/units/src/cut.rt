@@ -13,10 +13,9 @@ ghost use lib.ListN.{length};
 ghost use Rattle.utf8.specs.Lists.{any};
 ghost use Rattle.model.specs.Model.{strings};
 ghost use Rattle.units.specs.Kinds.{isNone};
-ghost use Rattle.units.specs.Units.{markCuts, punctuation, byteBefore, punctuationCuts, cutBy};
-ghost use Rattle.units.specs.Adjacency.{pairNoted};
-ghost use Rattle.units.specs.Derived.{namedCrossings};
-ghost use Rattle.units.specs.Next.{nextUnit};
+ghost use Rattle.units.specs.Units.{markCuts, punctuation, byteBefore, punctuationCuts, beginsUnit};
+ghost use Rattle.units.specs.inner.Read.{pairNoted, namedCrossings};
+ghost use Rattle.units.specs.inner.Next.{nextUnit};
 ghost use Rattle.units.specs.inner.Around.{starters};
 
 // Whether sections are cut at all.
@@ -144,7 +143,7 @@ pub fn cuts(
     section: &[u8],
     p: usize,
 ) -> bool
-    ensures { λ r. ⌜ r ≡ cutBy kind (namedCrossings (strings (now («piece_bytes» .entry)) (now («piece_offsets» .entry))) (now (noted .entry)) count) (pairNoted (now (adjacency .entry))) raw (now (section .entry)) p ⌝ }
+    ensures { λ r. ⌜ r ≡ beginsUnit kind (namedCrossings (strings (now («piece_bytes» .entry)) (now («piece_offsets» .entry))) (now (noted .entry)) count) (pairNoted (now (adjacency .entry))) raw (now (section .entry)) p ⌝ }
 {
     if p == 0 {
         return false;
@@ -179,7 +178,7 @@ pub fn next_unit(
     section: &[u8],
     from: usize,
 ) -> usize
-    ensures { λ r. ⌜ r ≡ nextUnit (cutBy kind (namedCrossings (strings (now («piece_bytes» .entry)) (now («piece_offsets» .entry))) (now (noted .entry)) count) (pairNoted (now (adjacency .entry))) raw (now (section .entry))) (now (section .entry)) from ⌝ }
+    ensures { λ r. ⌜ r ≡ nextUnit (beginsUnit kind (namedCrossings (strings (now («piece_bytes» .entry)) (now («piece_offsets» .entry))) (now (noted .entry)) count) (pairNoted (now (adjacency .entry))) raw (now (section .entry))) (now (section .entry)) from ⌝ }
 {
     if section.len() <= from {
         return section.len();

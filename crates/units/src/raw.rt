@@ -13,7 +13,7 @@ use model::tables::string_of;
 ghost use mathlib.Core.Path.{_≡_};
 ghost use lib.ListN.{take};
 ghost use Rattle.units.specs.Kinds.{isPrependMark, isSpaceReplace, isPresent, prependOf, rawPathOf};
-ghost use Rattle.units.specs.Derived.{rawPathBy};
+ghost use Rattle.units.specs.inner.Path.{rawPathBy};
 
 fn is_prepend_mark(step_bytes: &[u8], step: Step) -> bool
     ensures { λ r. ⌜ r ≡ isPrependMark (now («step_bytes» .entry)) step ⌝ }

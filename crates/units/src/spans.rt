@@ -13,7 +13,7 @@ ghost use Rattle.model.specs.Mark.{markWidth};
 ghost use Rattle.model.specs.Model.{strings};
 ghost use Rattle.units.specs.Kinds.{crossingAt};
 ghost use Rattle.units.specs.Units.{spanned};
-ghost use Rattle.units.specs.Derived.{namedCrossings};
+ghost use Rattle.units.specs.inner.Read.{namedCrossings};
 ghost use Rattle.units.specs.inner.Around.{around};
 
 // What follows the mark at `p`.

@@ -1,7 +1,7 @@
 -- Laws of bytes that are characters by themselves: those below 0x80. Assumes nothing.
 use Prim.Native.Nat.{ℕ, zero, suc, _+_, _≤_, _<_, max}
 use native.Mathlib.Omega.{arith}
-use mathlib.Core.Path.{_≡_, refl, ap, _∙_}
+use mathlib.Core.Path.{_≡_, ap, _∙_}
 use mathlib.Core.List.{List, [], _∷_, _++_}
 use lib.ListN.{length, take, drop, getD}
 use lib.Seq.{drop-cons, drop-drop, take-add}
@@ -31,7 +31,7 @@ module _ (s : List ℕ) where
 
 -- ---- the longest valid prefix
 
-plain-width : (b : ℕ) (t : List ℕ) → b < 0x80 → charWidth (b ∷ t) ≡ 1
+pub plain-width : (b : ℕ) (t : List ℕ) → b < 0x80 → charWidth (b ∷ t) ≡ 1
 unfolding charForms
 plain-width b t h = charWidth-lead 0 (b ∷ t) (omega arith) (omega arith) (omega arith)
 

@@ -1,16 +1,13 @@
 -- `encode::encode_prepared` meets its contract: by the first test that applies, and then by the path that the index tells.
-use Prim.Native.Nat.{_≤_}
 use native.Mathlib.Omega.{arith}
 use mathlib.Core.Path.{_≡_, sym, ap, _∙_}
 use borrow.Author.Needs.{needs}
-use lib.ListN.{length}
 use Rattle.model.specs.Model.{modelOf, tokenList, stepsOf}
 use Rattle.model.proofs.Accepted.{accepted}
 use Rattle.units.specs.Kinds.{rawPath}
 use Rattle.units.proofs.AdjacencyLaws.{Small}
 use Rattle.model.specs.Answers.{zeros}
-use Rattle.prepare.specs.Layout.{indexLength}
-use Rattle.prepare.proofs.PreparedLaws.{index-enough, path-read, first-begins, second-begins}
+use Rattle.prepare.proofs.PreparedLaws.{path-read, first-begins, second-begins}
 use Rattle.encode.proofs.EncodeLaws.{Lent, long-text, bad-text, no-raw-path, raw-text, normal-text}
 use Rattle.encode.proofs.OutcomeLaws.{raw-lent, normal-lent}
 use Rattle.encode.proofs.encode_prepared.Statement.{statement}
@@ -41,9 +38,6 @@ text-bytes k i = omega (arith, k .before .before .before .shared-slice-known22 .
 
 step-bytes : (k : tie.After-slice-known3) → Small (start k .args .step-bytes .now)
 step-bytes k i = omega (arith, k .before .before .before .before .before .before .shared-slice-known19 .given i)
-
-long-index : (k : tie.After-slice-known3) → indexLength ≤ length (start k .args .index .now)
-long-index k = index-enough (lent (start k) .model) (start k .pre .1 .1)
 
 -- the ways back from where the text was found valid, and from where the path was read
 abbrev entered : tie.Else2 → tie.After-slice-known3
@@ -83,20 +77,14 @@ raw-path-from-requires c κs = search needs
 enum-known-path : tie.Need-enum-known-path
 enum-known-path c = search needs
 
-sub-encode-raw : tie.Need-sub-encode-raw
-sub-encode-raw c = search needs
-
-part-encode-raw-start : tie.Need-part-encode-raw-start
-part-encode-raw-start c = search needs
-
-part-encode-raw-end : tie.Need-part-encode-raw-end
-part-encode-raw-end c = let k = entered (validAt (c .before .before .before)) in omega (arith, long-index k)
+words-between-requires : tie.Need-words-between-requires
+words-between-requires c κs = search needs
 
 encode-raw-requires : tie.Need-encode-raw-requires
 encode-raw-requires c κs =
     let k = entered (validAt (c .before .before .before .before .before)) in
     let m = lent (start k) .model in
-    (first-begins m (start k .pre .1 .1), accepted m (start k .pre .0) .firstTexts)
+    (first-begins m (start k .pre .1 .1) (c .before .words-between .ensures), accepted m (start k .pre .0) .firstTexts)
 
 clear-requires : tie.Need-clear-requires
 clear-requires c κs = search needs
@@ -120,30 +108,19 @@ returns-3 c =
     let k = e .before in
     no-raw-path (lent (start k)) _ (p .valid-prefix .ensures) (e .if1 .left) (start k .pre .0) (v .if2 .left) _ (c .refused3 .ensures) (c .before .if3 .taken) (sym (pathAt r) ∙ t .enum-told .given .1)
 
-sub-encode-normal : tie.Need-sub-encode-normal
-sub-encode-normal c = search needs
+words-between-requires-2 : tie.Need-words-between-requires-2
+words-between-requires-2 c κs = search needs
 
-part-encode-normal-start : tie.Need-part-encode-normal-start
-part-encode-normal-start c = search needs
-
-part-encode-normal-end : tie.Need-part-encode-normal-end
-part-encode-normal-end c = let k = entered (validAt (c .before .before .before)) in omega (arith, long-index k)
-
-sub-encode-normal-2 : tie.Need-sub-encode-normal-2
-sub-encode-normal-2 c = search needs
-
-part-encode-normal-start-2 : tie.Need-part-encode-normal-start-2
-part-encode-normal-start-2 c = search needs
-
-part-encode-normal-end-2 : tie.Need-part-encode-normal-end-2
-part-encode-normal-end-2 c = let k = entered (validAt (c .before .before .before .before)) in omega (arith, long-index k)
+words-between-requires-3 : tie.Need-words-between-requires-3
+words-between-requires-3 c κs = search needs
 
 encode-normal-requires : tie.Need-encode-normal-requires
 encode-normal-requires c κs =
-    let k = entered (validAt (c .before .before .before .before .before .before .before .before)) in
+    let both = c .before .before .before in
+    let k = entered (validAt (both .before .before .before .before .before)) in
     let m = lent (start k) .model in
     let ok = accepted m (start k .pre .0) in
-    (first-begins m (start k .pre .1 .1), (ok .firstTexts, (second-begins m (start k .pre .1 .1), ok .secondTexts)))
+    (first-begins m (start k .pre .1 .1) (both .before .words-between2 .ensures), (ok .firstTexts, (second-begins m (start k .pre .1 .1) (both .words-between3 .ensures), ok .secondTexts)))
 
 clear-requires-3 : tie.Need-clear-requires-3
 clear-requires-3 c κs = search needs
@@ -216,21 +193,15 @@ encode-prepared-spec =
     number-at-requires
     raw-path-from-requires
     enum-known-path
-    sub-encode-raw
-    part-encode-raw-start
-    part-encode-raw-end
+    words-between-requires
     encode-raw-requires
     clear-requires
     clear-requires-2
     enum-told
     refused-requires-3
     returns-3
-    sub-encode-normal
-    part-encode-normal-start
-    part-encode-normal-end
-    sub-encode-normal-2
-    part-encode-normal-start-2
-    part-encode-normal-end-2
+    words-between-requires-2
+    words-between-requires-3
     encode-normal-requires
     clear-requires-3
     clear-requires-4

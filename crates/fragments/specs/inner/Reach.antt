@@ -11,7 +11,7 @@ use Rattle.model.specs.Model.{TokenList, tokenList, contents, tokenAt}
 use Rattle.model.specs.Check.{badToken}
 use Rattle.sections.specs.Beginnings.{beginnings}
 use Rattle.sections.specs.Sections.{whiteLength}
-use Rattle.fragments.specs.Safe.{blocks, blockEnd, blockedBy}
+use Rattle.fragments.specs.Safe.{makesBlocks, blockEnd, blockedBy}
 use Rattle.fragments.specs.inner.Most.{most}
 
 -- The tokens of a list, whose ids do not matter here.
@@ -77,7 +77,7 @@ module _ (unguarded : Bool) (t : TokenList) (text : List ℕ) where
   -- Where the block of the row's token ends, if it stands at s, and else 0.
   unfoldable pub reachOf : ℕ → ℕ → ℕ
   reachOf s row =
-      cond (blocks unguarded (tokenAt t row) && standsAt t text s row) (blockEnd unguarded text (tokenAt t row) (s + length (tokenAt t row .content))) 0
+      cond (makesBlocks unguarded (tokenAt t row) && standsAt t text s row) (blockEnd unguarded text (tokenAt t row) (s + length (tokenAt t row .content))) 0
 
   -- How far the blocks of what stands at s reach.
   unfoldable pub reachAt : ℕ → ℕ
@@ -90,7 +90,7 @@ module _ (unguarded : Bool) (t : TokenList) (text : List ℕ) where
   -- Where the row's token ends, if it blocks and stands at s and its rstrip is as asked for, and else 0.
   unfoldable pub endOf : Bool → ℕ → ℕ → ℕ
   endOf strip s row =
-      cond (isAs strip (tokenAt t row .rstrip) && (blocks unguarded (tokenAt t row) && standsAt t text s row)) (s + length (tokenAt t row .content)) 0
+      cond (isAs strip (tokenAt t row .rstrip) && (makesBlocks unguarded (tokenAt t row) && standsAt t text s row)) (s + length (tokenAt t row .content)) 0
 
   -- How far what stands at s goes, and all that stands from one place up to another.
   unfoldable pub endAt : Bool → ℕ → ℕ

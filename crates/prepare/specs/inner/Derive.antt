@@ -5,7 +5,8 @@ use Rattle.utf8.specs.Lists.{isEmpty}
 use Rattle.model.specs.declared.Step.{Step}
 use Rattle.model.specs.declared.Metaspace.{Metaspace}
 use Rattle.units.specs.Kinds.{crossings, wordSplit}
-use Rattle.units.specs.Derived.{noting, rawPathBy}
+use Rattle.units.specs.Derived.{noting}
+use Rattle.units.specs.inner.Path.{rawPathBy}
 use Rattle.prepare.specs.Layout.{indexRow}
 use Rattle.prepare.specs.Numbers.{kindNumber, rawPathNumber}
 

@@ -1,4 +1,4 @@
--- The word of a slot of the pair table, row by row.
+-- The word of a slot of a pair table, row by row.
 use Prim.Native.Nat.{ℕ, _+_, _-_, _%_}
 use mathlib.Core.Bool.{cond}
 use mathlib.Core.List.{List}

@@ -5,13 +5,12 @@ use mathlib.Core.List.{List}
 use mathlib.Core.Option.{Option}
 use lib.ListN.{getD, take, drop}
 use Rattle.model.specs.Model.{Row, strings}
-use Rattle.units.specs.Units.{cutBy}
-use Rattle.units.specs.Adjacency.{pairNoted}
-use Rattle.units.specs.Derived.{namedCrossings}
+use Rattle.units.specs.Units.{beginsUnit}
+use Rattle.units.specs.inner.Read.{pairNoted, namedCrossings}
 use Rattle.merge.specs.inner.Laid.{ownFound}
 use Rattle.merge.specs.inner.Turns.{rowIn}
 use Rattle.prepare.specs.Layout.{kindAt, crossingCountAt, crossingsAt, markIdAt, shiftAt, firstBytesAt, bucketsAt, firstTokensAt}
-use Rattle.prepare.specs.Numbers.{kindFrom}
+use Rattle.prepare.specs.inner.Read.{kindFrom}
 use Rattle.stretches.specs.inner.Writers.{Writer, stretchWriter}
 
 pub record Tables : Type 0 where
@@ -42,7 +41,7 @@ rowsIn t = rowIn (t .left) (t .right) (t .result) (t .rank) (words bucketsAt fir
 -- Where a unit starts.
 unfoldable pub cutsIn : Tables → Bool → List ℕ → ℕ → Bool
 cutsIn t raw bytes =
-    cutBy (kindFrom (getD (t .index) kindAt 0))
+    beginsUnit (kindFrom (getD (t .index) kindAt 0))
     (namedCrossings (strings (t .pieceBytes) (t .pieceOffsets)) (words crossingsAt markIdAt (t .index)) (getD (t .index) crossingCountAt 0))
     (pairNoted (t .adjacency)) raw bytes
 

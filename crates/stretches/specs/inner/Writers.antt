@@ -6,7 +6,7 @@ use mathlib.Core.Option.{Option}
 use lib.ListN.{length, take, drop}
 use Rattle.utf8.specs.Lists.{joinMap}
 use Rattle.model.specs.Model.{Row}
-use Rattle.units.specs.Next.{unitsFrom}
+use Rattle.units.specs.inner.Next.{unitsFrom}
 use Rattle.merge.specs.Start.{startingIdsBy, unitChars, withVirtualMark}
 use Rattle.merge.specs.inner.Laid.{laid}
 use Rattle.merge.specs.inner.Turns.{Merged, mergedFront}

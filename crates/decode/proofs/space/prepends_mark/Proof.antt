@@ -1,5 +1,5 @@
 -- `decode::space::prepends_mark` meets its contract. Assumes nothing.
-use Rattle.decode.specs.Decode.{prependsMark}
+use Rattle.decode.specs.Decode.{schemePrepends}
 use borrow.Author.Needs.{needs}
 use Rattle.decode.proofs.space.prepends_mark.Statement.{statement}
 use Rattle.decode.proofs.space.prepends_mark.Tie as tie
@@ -20,19 +20,19 @@ enum-told-4 : tie.Need-enum-told-4
 enum-told-4 c = search needs
 
 returns : tie.Need-returns
-unfolding prependsMark
+unfolding schemePrepends
 returns c = search needs
 
 returns-2 : tie.Need-returns-2
-unfolding prependsMark
+unfolding schemePrepends
 returns-2 c = search needs
 
 returns-3 : tie.Need-returns-3
-unfolding prependsMark
+unfolding schemePrepends
 returns-3 c = search needs
 
 returns-4 : tie.Need-returns-4
-unfolding prependsMark
+unfolding schemePrepends
 returns-4 c = search needs
 
 pub prepends-mark-spec : {M : Type 1} → statement M

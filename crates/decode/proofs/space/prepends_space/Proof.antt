@@ -10,7 +10,7 @@ use Rattle.utf8.specs.Lists.{any}
 use Rattle.utf8.proofs.Places.{any-found, any-next, any-ended}
 use Rattle.model.specs.declared.Metaspace.{Metaspace}
 use Rattle.model.specs.declared.Step.{Step}
-use Rattle.decode.specs.Decode.{prependsMark, isPrepend, prependsSpace}
+use Rattle.decode.specs.Decode.{schemePrepends, isPrepend, prependsSpace}
 use borrow.Author.Needs.{needs}
 use Rattle.decode.proofs.space.prepends_space.Statement.{statement}
 use Rattle.decode.proofs.space.prepends_space.Tie as tie
@@ -21,11 +21,11 @@ Inv-loop count steps i₀ i = (i ≤ count) × (any isPrepend (take count steps)
 abbrev μ-loop : tie.MeasureT-loop
 μ-loop count steps i₀ i = count - i
 
-metaspace-decides : (m : Metaspace) (steps : List Step) → prependsMark m ≡ true → prependsSpace m steps ≡ true
+metaspace-decides : (m : Metaspace) (steps : List Step) → schemePrepends m ≡ true → prependsSpace m steps ≡ true
 unfolding prependsSpace
 metaspace-decides m steps e = rw e
 
-steps-decide : (m : Metaspace) (steps : List Step) → prependsMark m ≡ false → prependsSpace m steps ≡ any isPrepend steps
+steps-decide : (m : Metaspace) (steps : List Step) → schemePrepends m ≡ false → prependsSpace m steps ≡ any isPrepend steps
 unfolding prependsSpace
 steps-decide m steps e = rw e
 

@@ -20,8 +20,11 @@ use Rattle.encode.proofs.normal.encode_normal.Tie as tie
 abbrev countedAt : tie.After-slice-known5 → tie.After-count-normal
 countedAt k = k .before .before .before .before
 
+abbrev entered : tie.After-slice-known3 → tie.Start
+entered k = k .before .before .before .before .before .before .before .before .before .before .before .before .before .before .before .before .before .before .before .before .before .before .before .before .before .before .before
+
 abbrev start : tie.After-count-normal → tie.Start
-start p = p .before .before .before .before .before .before .before .before .before .before .before .before .before .before .before .before .before .before .before .before .before .before .before .before .before .before .before .before .before .before
+start p = entered (p .before .before .before)
 
 -- What is lent: the tables, the tokens of the first list, what normalizing takes, the room, and what all this comes to.
 abbrev tablesOf : tie.Start → Tables
@@ -45,7 +48,7 @@ abbrev partsOf : tie.Start → List (Item Stretch)
 partsOf s = takenApart (sectionStretches (normalOf s) (s .args .text .now)) (sections (tokensOf s) (s .args .text .now))
 
 add-count-normal : tie.Need-add-count-normal
-add-count-normal c = omega (arith, c .before .before .before .before .before .before .before .before .before .before .before .before .before .before .before .before .before .before .before .before .before .before .before .before .before .before .before .good .1 .1 .1 .1 .1 .1 .1 .1 .1 .1 .1 .1 .1 .1 .1 .1 .1 .1 .1 .1 .1 .1 .1 .1 .1 .1 .1 .1 .1 .0 .1)
+add-count-normal c = omega (arith, entered c .good .1 .1 .1 .1 .1 .1 .1 .1 .1 .1 .1 .1 .1 .1 .1 .1 .1 .1 .1 .1 .1 .1 .1 .1 .1 .1 .1 .1 .1 .0 .1)
 
 count-normal-requires : tie.Need-count-normal-requires
 count-normal-requires c κs = search needs

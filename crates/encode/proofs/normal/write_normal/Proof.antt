@@ -1,6 +1,6 @@
 -- `encode::normal::write_normal` meets its contract. The loop's invariant: the sections before the cursor are written, those from there on follow,
 -- and none of them is too long.
-use Prim.Native.Nat.{ℕ, _-_, min}
+use Prim.Native.Nat.{ℕ, _-_, min, _*_, _<_}
 use native.Mathlib.Omega.{arith}
 use mathlib.Core.Bool.{false}
 use mathlib.Core.Path.{_≡_, refl, ap, ap₂, _∙_}
@@ -74,6 +74,10 @@ leftAt a = let s = start (a .before) in takenApart (partsOf s) (sectionsLeft (to
 sections-start-requires : tie.Need-sections-start-requires Inv-loop μ-loop
 sections-start-requires c κs = search needs
 
+-- The result is no longer than any slice of words.
+out-fits : (s : tie.Start Inv-loop μ-loop) → (length (s .args .out .now) < 18446744073709551616) × (length (s .args .out .now) * 4 < 9223372036854775808)
+out-fits s = s .good .1 .1 .1 .1 .1 .1 .1 .1 .1 .1 .1 .1 .1 .1 .1 .1 .1 .1 .1 .1 .1 .1 .1 .1 .1 .1 .1 .1 .1 .0
+
 loop-holds : tie.Need-loop-holds Inv-loop μ-loop
 loop-holds c =
     let s = start c in
@@ -112,7 +116,7 @@ enum-known-id c = search needs
 mul-put-id : tie.Need-mul-put-id Inv-loop μ-loop
 mul-put-id c =
     let a = c .before .before .before .before in
-    omega (arith, start (a .before) .good .1 .1 .1 .1 .1 .1 .1 .1 .1 .1 .1 .1 .1 .1 .1 .1 .1 .1 .1 .1 .1 .1 .1 .1 .1 .1 .1 .1 .1 .0 .1, a .loop .inv .0 .within, a .loop .inv .0 .long)
+    omega (arith, out-fits (start (a .before)) .1, a .loop .inv .0 .within, a .loop .inv .0 .long)
 
 sub-put-id : tie.Need-sub-put-id Inv-loop μ-loop
 sub-put-id c = c .before .before .before .before .loop .inv .0 .within
@@ -131,7 +135,7 @@ add-written c =
     let e = c .before .before in
     let a = e .before .before .before .before .before .before in
     let s = start (a .before) in
-    omega (arith, s .good .1 .1 .1 .1 .1 .1 .1 .1 .1 .1 .1 .1 .1 .1 .1 .1 .1 .1 .1 .1 .1 .1 .1 .1 .1 .1 .1 .1 .1 .0 .0, token-fit (tablesOf s) (wholeOf s) (leftAt a) (a .loop .inv .0) (e .before .before .before .id .given .0 .0) (e .put-id .ensures))
+    omega (arith, out-fits s .0, token-fit (tablesOf s) (wholeOf s) (leftAt a) (a .loop .inv .0) (e .before .before .before .id .given .0 .0) (e .put-id .ensures))
 
 loop-less : tie.Need-loop-less Inv-loop μ-loop
 loop-less c =
@@ -186,7 +190,7 @@ nextAt p =
 mul-encode-normal-section : tie.Need-mul-encode-normal-section Inv-loop μ-loop
 mul-encode-normal-section c =
     let a = headAt (c .before .before) in
-    omega (arith, start (a .before) .good .1 .1 .1 .1 .1 .1 .1 .1 .1 .1 .1 .1 .1 .1 .1 .1 .1 .1 .1 .1 .1 .1 .1 .1 .1 .1 .1 .1 .1 .0 .1, a .loop .inv .0 .within, a .loop .inv .0 .long)
+    omega (arith, out-fits (start (a .before)) .1, a .loop .inv .0 .within, a .loop .inv .0 .long)
 
 sub-encode-normal-section : tie.Need-sub-encode-normal-section Inv-loop μ-loop
 sub-encode-normal-section c = headAt (c .before .before) .loop .inv .0 .within
@@ -221,7 +225,7 @@ add-written-2 c =
     let p = e .before .before .before .before in
     let a = headAt p in
     let s = startAt p in
-    omega (arith, s .good .1 .1 .1 .1 .1 .1 .1 .1 .1 .1 .1 .1 .1 .1 .1 .1 .1 .1 .1 .1 .1 .1 .1 .1 .1 .1 .1 .1 .1 .0 .0, parts-fit (tablesOf s) (wholeOf s) (leftAt a) (a .loop .inv .0) (partsOf s (sectionAt p)) (putAt e))
+    omega (arith, out-fits s .0, parts-fit (tablesOf s) (wholeOf s) (leftAt a) (a .loop .inv .0) (partsOf s (sectionAt p)) (putAt e))
 
 loop-less-2 : tie.Need-loop-less-2 Inv-loop μ-loop
 loop-less-2 c =

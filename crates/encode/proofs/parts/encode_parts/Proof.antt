@@ -1,6 +1,6 @@
 -- `encode::parts::encode_parts` meets its contract. The loop's invariant: the parts before the cursor are written, those from there on follow, and
 -- none of them is too long.
-use Prim.Native.Nat.{ℕ, _-_}
+use Prim.Native.Nat.{ℕ, _-_, _*_, _<_}
 use native.Mathlib.Omega.{arith}
 use mathlib.Core.Bool.{true}
 use mathlib.Core.Path.{_≡_, refl, ap, _∙_}
@@ -58,6 +58,10 @@ leftAt a = let s = start (a .before) in takenApart (partStretch (s .args .metasp
 parts-start-requires : tie.Need-parts-start-requires Inv-loop μ-loop
 parts-start-requires c κs = search needs
 
+-- The result is no longer than any slice of words.
+out-fits : (s : tie.Start Inv-loop μ-loop) → (length (s .args .out .now) < 18446744073709551616) × (length (s .args .out .now) * 4 < 9223372036854775808)
+out-fits s = s .good .1 .1 .1 .1 .1 .1 .1 .1 .1 .1 .1 .1 .1 .1 .1 .1 .1 .1 .1 .1 .1 .0
+
 loop-holds : tie.Need-loop-holds Inv-loop μ-loop
 loop-holds c =
     let s = start c in
@@ -92,7 +96,7 @@ enum-known-id c = search needs
 mul-put-id : tie.Need-mul-put-id Inv-loop μ-loop
 mul-put-id c =
     let a = c .before .before .before .before in
-    omega (arith, start (a .before) .good .1 .1 .1 .1 .1 .1 .1 .1 .1 .1 .1 .1 .1 .1 .1 .1 .1 .1 .1 .1 .1 .0 .1, a .loop .inv .0 .within, a .loop .inv .0 .long)
+    omega (arith, out-fits (start (a .before)) .1, a .loop .inv .0 .within, a .loop .inv .0 .long)
 
 sub-put-id : tie.Need-sub-put-id Inv-loop μ-loop
 sub-put-id c = c .before .before .before .before .loop .inv .0 .within
@@ -111,7 +115,7 @@ add-written c =
     let e = c .before .before in
     let a = e .before .before .before .before .before .before in
     let s = start (a .before) in
-    omega (arith, s .good .1 .1 .1 .1 .1 .1 .1 .1 .1 .1 .1 .1 .1 .1 .1 .1 .1 .1 .1 .1 .1 .0 .0, token-fit (tablesOf s) (wholeOf s) (leftAt a) (a .loop .inv .0) (e .before .before .before .id .given .0 .0) (e .put-id .ensures))
+    omega (arith, out-fits s .0, token-fit (tablesOf s) (wholeOf s) (leftAt a) (a .loop .inv .0) (e .before .before .before .id .given .0 .0) (e .put-id .ensures))
 
 loop-less : tie.Need-loop-less Inv-loop μ-loop
 loop-less c =
@@ -167,7 +171,7 @@ nextAt p =
 mul-encode-part : tie.Need-mul-encode-part Inv-loop μ-loop
 mul-encode-part c =
     let a = headAt (c .before) in
-    omega (arith, start (a .before) .good .1 .1 .1 .1 .1 .1 .1 .1 .1 .1 .1 .1 .1 .1 .1 .1 .1 .1 .1 .1 .1 .0 .1, a .loop .inv .0 .within, a .loop .inv .0 .long)
+    omega (arith, out-fits (start (a .before)) .1, a .loop .inv .0 .within, a .loop .inv .0 .long)
 
 sub-encode-part : tie.Need-sub-encode-part Inv-loop μ-loop
 sub-encode-part c = headAt (c .before) .loop .inv .0 .within
@@ -200,7 +204,7 @@ add-written-2 c =
     let p = e .before .before .before in
     let a = headAt p in
     let s = startAt p in
-    omega (arith, s .good .1 .1 .1 .1 .1 .1 .1 .1 .1 .1 .1 .1 .1 .1 .1 .1 .1 .1 .1 .1 .1 .0 .0, parts-fit (tablesOf s) (wholeOf s) (leftAt a) (a .loop .inv .0) (partStretch (s .args .metaspace) (partAt p)) (putAt e))
+    omega (arith, out-fits s .0, parts-fit (tablesOf s) (wholeOf s) (leftAt a) (a .loop .inv .0) (partStretch (s .args .metaspace) (partAt p)) (putAt e))
 
 loop-less-2 : tie.Need-loop-less-2 Inv-loop μ-loop
 loop-less-2 c =

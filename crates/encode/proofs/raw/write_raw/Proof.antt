@@ -1,5 +1,5 @@
 -- `encode::raw::write_raw` meets its contract. The loop's invariant: the parts before the cursor are written, and those from there on follow.
-use Prim.Native.Nat.{ℕ, _-_}
+use Prim.Native.Nat.{ℕ, _-_, _*_, _<_}
 use native.Mathlib.Omega.{arith}
 use mathlib.Core.Bool.{false}
 use mathlib.Core.Path.{ap, _∙_}
@@ -54,6 +54,10 @@ leftAt a = let s = start (a .before) in partsLeft (partsOf s) (tokensOf s) (s .a
 sections-start-requires : tie.Need-sections-start-requires Inv-loop μ-loop
 sections-start-requires c κs = search needs
 
+-- The result is no longer than any slice of words.
+out-fits : (s : tie.Start Inv-loop μ-loop) → (length (s .args .out .now) < 18446744073709551616) × (length (s .args .out .now) * 4 < 9223372036854775808)
+out-fits s = s .good .1 .1 .1 .1 .1 .1 .1 .1 .1 .1 .1 .1 .1 .1 .1 .1 .1 .1 .1 .0
+
 loop-holds : tie.Need-loop-holds Inv-loop μ-loop
 loop-holds c =
     let s = start c in
@@ -81,7 +85,7 @@ enum-known-id c = search needs
 mul-put-id : tie.Need-mul-put-id Inv-loop μ-loop
 mul-put-id c =
     let a = c .before .before .before .before in
-    omega (arith, start (a .before) .good .1 .1 .1 .1 .1 .1 .1 .1 .1 .1 .1 .1 .1 .1 .1 .1 .1 .1 .1 .0 .1, a .loop .inv .within, a .loop .inv .long)
+    omega (arith, out-fits (start (a .before)) .1, a .loop .inv .within, a .loop .inv .long)
 
 sub-put-id : tie.Need-sub-put-id Inv-loop μ-loop
 sub-put-id c = c .before .before .before .before .loop .inv .within
@@ -100,7 +104,7 @@ add-written c =
     let e = c .before .before in
     let a = e .before .before .before .before .before .before in
     let s = start (a .before) in
-    omega (arith, s .good .1 .1 .1 .1 .1 .1 .1 .1 .1 .1 .1 .1 .1 .1 .1 .1 .1 .1 .1 .0 .0, token-fit (tablesOf s) (wholeOf s) (leftAt a) (a .loop .inv) (e .before .before .before .id .given .0 .0) (e .put-id .ensures))
+    omega (arith, out-fits s .0, token-fit (tablesOf s) (wholeOf s) (leftAt a) (a .loop .inv) (e .before .before .before .id .given .0 .0) (e .put-id .ensures))
 
 loop-less : tie.Need-loop-less Inv-loop μ-loop
 loop-less c =
@@ -127,7 +131,7 @@ part-requires c κs = search needs
 mul-encode-section : tie.Need-mul-encode-section Inv-loop μ-loop
 mul-encode-section c =
     let a = c .before .before .before .before .before in
-    omega (arith, start (a .before) .good .1 .1 .1 .1 .1 .1 .1 .1 .1 .1 .1 .1 .1 .1 .1 .1 .1 .1 .1 .0 .1, a .loop .inv .within, a .loop .inv .long)
+    omega (arith, out-fits (start (a .before)) .1, a .loop .inv .within, a .loop .inv .long)
 
 sub-encode-section : tie.Need-sub-encode-section Inv-loop μ-loop
 sub-encode-section c = c .before .before .before .before .before .loop .inv .within
@@ -156,7 +160,7 @@ add-written-2 c =
     let s = start (a .before) in
     let now = n .start .given .0 in
     omega
-    (arith, s .good .1 .1 .1 .1 .1 .1 .1 .1 .1 .1 .1 .1 .1 .1 .1 .1 .1 .1 .1 .0 .0, parts-fit (tablesOf s) (wholeOf s) (leftAt a) (a .loop .inv) (sectionAt n) (e .encode-section .ensures ∙ ap (λ (l : List (Item Stretch)). partsWriter (tablesOf s) l (take (length (a .loop .out) - a .loop .written) (drop (a .loop .written) (a .loop .out)))) (raw-section (s .args .prepend) (s .args .continuation) (s .args .text .now) (now .0) (now .1 .0) (now .1 .1 .0) (p .part .ensures))))
+    (arith, out-fits s .0, parts-fit (tablesOf s) (wholeOf s) (leftAt a) (a .loop .inv) (sectionAt n) (e .encode-section .ensures ∙ ap (λ (l : List (Item Stretch)). partsWriter (tablesOf s) l (take (length (a .loop .out) - a .loop .written) (drop (a .loop .written) (a .loop .out)))) (raw-section (s .args .prepend) (s .args .continuation) (s .args .text .now) (now .0) (now .1 .0) (now .1 .1 .0) (p .part .ensures))))
 
 loop-less-2 : tie.Need-loop-less-2 Inv-loop μ-loop
 loop-less-2 c =

@@ -10,7 +10,7 @@ use lib.ListN.{length, drop, getD, length-drop}
 use Rattle.utf8.specs.Lists.{startsWith}
 use Rattle.utf8.proofs.Starts.{starts-length}
 use Rattle.model.specs.Model.{strings}
-use Rattle.fragments.specs.Safe.{blocks}
+use Rattle.fragments.specs.Safe.{makesBlocks}
 use Rattle.fragments.specs.inner.Reach.{isAs}
 use Rattle.fragments.proofs.EndLaws.{same-token, same-start, end-other, end-apart, end-idle, end-stands}
 use Rattle.fragments.proofs.ends.end_of.Statement.{statement}
@@ -40,7 +40,7 @@ compared c = c .before .before .before
 blocking : (c : tie.After-is-blocking)
     → (let f = flagged (compared c) in
     let a = start f .args in
-    c .is-blocking .result ≡ blocks (a .unguarded) (record { content = content f; id = 0; lstrip = getD (a .lstrip .now) (a .row) false; rstrip = getD (a .rstrip .now) (a .row) false }))
+    c .is-blocking .result ≡ makesBlocks (a .unguarded) (record { content = content f; id = 0; lstrip = getD (a .lstrip .now) (a .row) false; rstrip = getD (a .rstrip .now) (a .row) false }))
 blocking c =
     c .is-blocking .ensures
     ∙ same-token (start (flagged (compared c)) .args .unguarded) (compared c .before .before .string-at .ensures) (c .before .flag-at2 .ensures) (flagged (compared c) .flag-at .ensures)

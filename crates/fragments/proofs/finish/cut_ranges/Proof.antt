@@ -7,7 +7,7 @@ use mathlib.Core.List.{List}
 use borrow.Author.Needs.{needs}
 use lib.ListN.{length}
 use Rattle.model.specs.Model.{strings}
-use Rattle.units.specs.Derived.{namedCrossings}
+use Rattle.units.specs.inner.Read.{namedCrossings}
 use Rattle.fragments.specs.inner.Reach.{tokensOf}
 use Rattle.fragments.specs.inner.Search.{safeIn, numbersIn}
 use Rattle.fragments.proofs.FinishLaws.{few-cuts, two-each, ranges-short, cleared-long, ranges-done}

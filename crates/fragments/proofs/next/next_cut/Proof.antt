@@ -5,7 +5,7 @@ use native.Mathlib.Omega.{arith}
 use borrow.Author.Needs.{needs}
 use lib.ListN.{length}
 use Rattle.model.specs.Model.{strings}
-use Rattle.units.specs.Derived.{namedCrossings}
+use Rattle.units.specs.inner.Read.{namedCrossings}
 use Rattle.fragments.specs.inner.Reach.{tokensOf}
 use Rattle.fragments.specs.inner.Search.{Judged}
 use Rattle.fragments.specs.declared.Verdict.{Verdict}

@@ -6,7 +6,7 @@ use borrow.Author.Needs.{needs}
 use lib.ListN.{length}
 use Rattle.model.specs.Model.{strings}
 use Rattle.units.specs.Units.{markCuts}
-use Rattle.units.specs.Derived.{namedCrossings}
+use Rattle.units.specs.inner.Read.{namedCrossings}
 use Rattle.fragments.specs.inner.Search.{firstFrom}
 use Rattle.fragments.proofs.FirstLaws.{first-found, first-next, first-ended, no-mark}
 use Rattle.fragments.proofs.next.next_mark.Statement.{statement}

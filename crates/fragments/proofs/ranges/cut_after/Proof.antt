@@ -3,7 +3,7 @@ use Prim.Native.Nat.{_+_}
 use native.Mathlib.Omega.{arith}
 use borrow.Author.Needs.{needs}
 use Rattle.model.specs.Model.{strings}
-use Rattle.units.specs.Derived.{namedCrossings}
+use Rattle.units.specs.inner.Read.{namedCrossings}
 use Rattle.fragments.specs.inner.Reach.{tokensOf}
 use Rattle.fragments.proofs.CutLaws.{Over, known-later}
 use Rattle.fragments.proofs.PassLaws.{none-after}

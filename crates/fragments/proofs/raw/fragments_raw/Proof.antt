@@ -2,7 +2,7 @@
 use native.Mathlib.Omega.{arith}
 use mathlib.Core.Path.{ap, _∙_}
 use borrow.Author.Needs.{needs}
-use Rattle.prepare.specs.Numbers.{kindFrom}
+use Rattle.prepare.specs.inner.Read.{kindFrom}
 use Rattle.fragments.proofs.FinishLaws.{ranges-read, given-read}
 use Rattle.fragments.proofs.raw.fragments_raw.Statement.{statement}
 use Rattle.fragments.proofs.raw.fragments_raw.Tie as tie

@@ -137,21 +137,25 @@ slice-aggregate-close-gap c = let f = found (told (c .before .before .before .be
 close-gap-requires : tie.Need-close-gap-requires Inv-loop μ-loop
 close-gap-requires c κs = let p = c .before .before .before .before .before .before in let f = found (told p) in omega (arith, inside p, ap length (front f), long f)
 
+-- the way back from where ids and keys are closed up to where the place was told
+abbrev placed : tie.After-slice-known5 Inv-loop μ-loop → tie.After-place Inv-loop μ-loop
+placed k = k .before .before .before .before .before .before .before .before .before
+
 sub-n : tie.Need-sub-n Inv-loop μ-loop
-sub-n c = let p = c .before .before .before .before .before .before .before .before .before in omega (arith, inside p)
+sub-n c = omega (arith, inside (placed c))
 
 before-requires : tie.Need-before-requires Inv-loop μ-loop
 before-requires c κs = search needs
 
 add-to : tie.Need-add-to Inv-loop μ-loop
-add-to c = let p = c .before .before .before .before .before .before .before .before .before .before in let a = loop (found (told p)) in omega (arith, inside p, keeping-ids (a .loop .inv), a .loop .inv .merging .size, start (a .before) .good .1 .1 .1 .1 .1 .1 .0 .0)
+add-to c = let p = placed (c .before) in let a = loop (found (told p)) in omega (arith, inside p, keeping-ids (a .loop .inv), a .loop .inv .merging .size, start (a .before) .good .1 .1 .1 .1 .1 .1 .0 .0)
 
 loop-less : tie.Need-loop-less Inv-loop μ-loop
-loop-less c = let p = c .before .before .before .before .before .before .before .before .before .before in omega (arith, inside p)
+loop-less c = omega (arith, inside (placed (c .before)))
 
 loop-again : tie.Need-loop-again Inv-loop μ-loop
 loop-again c =
-    let p = c .before .before .before .before .before .before .before .before .before .before in
+    let p = placed (c .before) in
     let f = found (told p) in
     let a = loop f in
     let n = a .loop .n in

@@ -1,5 +1,5 @@
 -- `merge::start::init_symbols` meets its contract. The loop's invariant: the characters before `i` are spelled.
-use Prim.Native.Nat.{_+_, _-_, _≤_, _<_}
+use Prim.Native.Nat.{_+_, _-_, _≤_, _<_, _*_}
 use native.Mathlib.Omega.{arith}
 use borrow.Author.Needs.{needs}
 use lib.ListN.{length, take, drop, length-take}
@@ -56,6 +56,10 @@ lone t =
 spell-mark-requires : tie.Need-spell-mark-requires Inv-loop μ-loop
 spell-mark-requires c κs = search needs
 
+-- The result is no longer than any slice of words.
+out-fits : (s : tie.Start Inv-loop μ-loop) → (length (s .args .out .now) < 18446744073709551616) × (length (s .args .out .now) * 4 < 9223372036854775808)
+out-fits s = s .good .1 .1 .1 .1 .1 .1 .1 .1 .1 .0
+
 loop-holds : tie.Need-loop-holds Inv-loop μ-loop
 loop-holds c = (search needs, search needs, onward-start _ _ _ _ _ _)
 
@@ -68,7 +72,7 @@ own-byte-requires c κs = search needs
 mul-out : tie.Need-mul-out Inv-loop μ-loop
 mul-out c =
     let a = turn (c .before .before) in
-    omega (arith, start (a .before) .good .1 .1 .1 .1 .1 .1 .1 .1 .1 .0 .1, walked a .laying .count .within)
+    omega (arith, out-fits (start (a .before)) .1, walked a .laying .count .within)
 
 slice-write-out : tie.Need-slice-write-out Inv-loop μ-loop
 slice-write-out c = search needs
@@ -76,7 +80,7 @@ slice-write-out c = search needs
 add-count : tie.Need-add-count Inv-loop μ-loop
 add-count c =
     let a = turn (c .before .before) in
-    omega (arith, start (a .before) .good .1 .1 .1 .1 .1 .1 .1 .1 .1 .0 .1, walked a .laying .count .within)
+    omega (arith, out-fits (start (a .before)) .1, walked a .laying .count .within)
 
 add-i : tie.Need-add-i Inv-loop μ-loop
 add-i c = search needs
@@ -127,7 +131,7 @@ part-spell-as-end c = here c .ends
 mul-spell-as : tie.Need-mul-spell-as Inv-loop μ-loop
 mul-spell-as c =
     let a = wide-turn (c .before) in
-    omega (arith, start (a .before) .good .1 .1 .1 .1 .1 .1 .1 .1 .1 .0 .1, walked a .laying .count .within)
+    omega (arith, out-fits (start (a .before)) .1, walked a .laying .count .within)
 
 sub-spell-as-2 : tie.Need-sub-spell-as-2 Inv-loop μ-loop
 sub-spell-as-2 c =
@@ -153,7 +157,7 @@ add-count-2 c =
     let char = asMark (st .raw) (take (a .loop .i + f .before .before .before .char-step .result - a .loop .i) (drop (a .loop .i) (st .unit .now))) in
     let g = given (ownFound (st .piece-bytes .now) (st .piece-offsets .now) (st .lookup .now) (st .first-bytes .now) (st .mark-id)) (st .fallback .now) char (take (length (a .loop .out) - a .loop .count) (drop (a .loop .count) (a .loop .out))) (f .spell-as .ensures) in
     let w = walked a in
-    omega (arith, start (a .before) .good .1 .1 .1 .1 .1 .1 .1 .1 .1 .0 .0, g .count, length-take (length (a .loop .out) - a .loop .count) (drop (a .loop .count) (a .loop .out)), w .laying .count .within, w .laying .long)
+    omega (arith, out-fits (start (a .before)) .0, g .count, length-take (length (a .loop .out) - a .loop .count) (drop (a .loop .count) (a .loop .out)), w .laying .count .within, w .laying .long)
 
 add-drops : tie.Need-add-drops Inv-loop μ-loop
 add-drops c =

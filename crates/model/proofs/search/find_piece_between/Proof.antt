@@ -1,9 +1,12 @@
 -- `model::search::find_piece_between` meets its contract: the loop keeps the laws of a search by halves.
-use Prim.Native.Nat.{ℕ, _-_, min}
+use Prim.Native.Nat.{ℕ, _+_, _-_, _/_, min}
+use mathlib.Core.Path.{_≡_, sym, ap, _∙_}
+use mathlib.Core.List.{List, []}
 use borrow.Author.Needs.{needs}
-use lib.ListN.{length}
+use lib.ListN.{length, getD}
 use Rattle.model.specs.declared.Order.{Order}
 use Rattle.model.specs.Model.{strings, piece}
+use Rattle.model.specs.ByteOrder.{byteOrder}
 use Rattle.model.specs.inner.Search.{pieceOrder}
 use Rattle.model.proofs.SearchLaws.{Halving, halving-start, halving-up, halving-down, halving-found, halving-none}
 use Rattle.model.proofs.search.find_piece_between.Statement.{statement}
@@ -29,6 +32,20 @@ begun c = c .before .before .before .before .before
 
 abbrev start : tie.At-loop Inv-loop μ-loop → tie.Start Inv-loop μ-loop
 start c = begun (c .before)
+
+-- the loop from where two strings were compared, and how its middle entry stands to what is sought
+abbrev loopAt : tie.After-byte-order Inv-loop μ-loop → tie.At-loop Inv-loop μ-loop
+loopAt b = b .before .before .before .before .before
+
+middle : (b : tie.After-byte-order Inv-loop μ-loop) → let t = loopAt b in b .byte-order .result ≡ order (start t) ((t .loop .lo + t .loop .hi) / 2)
+unfolding pieceOrder piece
+middle b =
+    let t = loopAt b in
+    let s = start t in
+    let id : b .before .before .wide .result ≡ getD (s .args .lookup .now) ((t .loop .lo + t .loop .hi) / 2) 0 = b .before .before .wide .ensures .0 in
+    let entry : b .before .string-at .result .now ≡ piece (strings (s .args .piece-bytes .now) (s .args .piece-offsets .now)) (getD (s .args .lookup .now) ((t .loop .lo + t .loop .hi) / 2) 0) =
+    b .before .string-at .ensures ∙ ap (λ (n : ℕ). getD (strings (s .args .piece-bytes .now) (s .args .piece-offsets .now)) n []) id in
+    b .byte-order .ensures ∙ ap (λ (l : List ℕ). byteOrder l (s .args .key .now)) entry
 
 lesser-requires : tie.Need-lesser-requires Inv-loop μ-loop
 lesser-requires c κs = search needs
@@ -64,21 +81,21 @@ loop-less : tie.Need-loop-less Inv-loop μ-loop
 loop-less c = search needs
 
 loop-again : tie.Need-loop-again Inv-loop μ-loop
-unfolding pieceOrder piece
 loop-again c =
-    let t = c .before .before .before .before .before .before .before in
+    let b = c .before .before in
+    let t = loopAt b in
     let s = start t in
-    halving-up (order s) (s .args .from) (end s) (t .loop .lo) (t .loop .hi) (t .loop .inv) (search needs) (cc)
+    halving-up (order s) (s .args .from) (end s) (t .loop .lo) (t .loop .hi) (t .loop .inv) (search needs) (sym (middle b) ∙ c .enum-told .given .1)
 
 enum-told-2 : tie.Need-enum-told-2 Inv-loop μ-loop
 enum-told-2 c = search needs
 
 returns : tie.Need-returns Inv-loop μ-loop
-unfolding pieceOrder piece
 returns c =
-    let t = c .before .before .before .before .before .before .before in
+    let b = c .before .before in
+    let t = loopAt b in
     let s = start t in
-    halving-found (order s) (s .args .from) (end s) (t .loop .lo) (t .loop .hi) (t .loop .inv) (search needs) (cc)
+    halving-found (order s) (s .args .from) (end s) (t .loop .lo) (t .loop .hi) (t .loop .inv) (search needs) (sym (middle b) ∙ c .enum-told2 .given .1)
 
 enum-told-3 : tie.Need-enum-told-3 Inv-loop μ-loop
 enum-told-3 c = search needs
@@ -87,11 +104,11 @@ loop-less-2 : tie.Need-loop-less-2 Inv-loop μ-loop
 loop-less-2 c = search needs
 
 loop-again-2 : tie.Need-loop-again-2 Inv-loop μ-loop
-unfolding pieceOrder piece
 loop-again-2 c =
-    let t = c .before .before .before .before .before .before .before in
+    let b = c .before .before in
+    let t = loopAt b in
     let s = start t in
-    halving-down (order s) (s .args .from) (end s) (t .loop .lo) (t .loop .hi) (t .loop .inv) (search needs) (cc)
+    halving-down (order s) (s .args .from) (end s) (t .loop .lo) (t .loop .hi) (t .loop .inv) (search needs) (sym (middle b) ∙ c .enum-told3 .given .1)
 
 returns-2 : tie.Need-returns-2 Inv-loop μ-loop
 returns-2 c =

@@ -1,9 +1,10 @@
 -- `model::search::find_row_between` meets its contract: the loop keeps the laws of a search by halves.
-use Prim.Native.Nat.{ℕ, _-_, min}
+use Prim.Native.Nat.{ℕ, _+_, _-_, _/_, min}
+use mathlib.Core.Path.{_≡_, sym, ap, _∙_}
 use borrow.Author.Needs.{needs}
-use lib.ListN.{length}
+use lib.ListN.{length, getD}
 use Rattle.model.specs.declared.Order.{Order}
-use Rattle.model.specs.inner.Search.{rowOrder}
+use Rattle.model.specs.inner.Search.{pairOrder, rowOrder}
 use Rattle.model.proofs.SearchLaws.{Halving, halving-start, halving-up, halving-down, halving-found, halving-none}
 use Rattle.model.proofs.search.find_row_between.Statement.{statement}
 use Rattle.model.proofs.search.find_row_between.Tie as tie
@@ -24,6 +25,19 @@ end s = min (s .args .to) (length (s .args .left .now))
 -- the start of the call, from where the loop stands
 abbrev start : tie.At-loop Inv-loop μ-loop → tie.Start Inv-loop μ-loop
 start c = c .before .before .before .before
+
+-- the loop from where two pairs were compared, and how its middle row stands to the pair that is sought
+abbrev loopAt : tie.After-pair-order Inv-loop μ-loop → tie.At-loop Inv-loop μ-loop
+loopAt b = b .before .before .before .before
+
+middle : (b : tie.After-pair-order Inv-loop μ-loop) → let t = loopAt b in b .pair-order .result ≡ order (start t) ((t .loop .lo + t .loop .hi) / 2)
+unfolding rowOrder
+middle b =
+    let t = loopAt b in
+    let s = start t in
+    let at = (t .loop .lo + t .loop .hi) / 2 in
+    let right : b .before .number-at .result ≡ getD (s .args .right .now) at 0 = b .before .number-at .ensures in
+    b .pair-order .ensures ∙ ap (λ (n : ℕ). pairOrder (getD (s .args .left .now) at 0, n) (s .args .l, s .args .r)) right
 
 lesser-requires : tie.Need-lesser-requires Inv-loop μ-loop
 lesser-requires c κs = search needs
@@ -56,21 +70,21 @@ loop-less : tie.Need-loop-less Inv-loop μ-loop
 loop-less c = search needs
 
 loop-again : tie.Need-loop-again Inv-loop μ-loop
-unfolding rowOrder
 loop-again c =
-    let t = c .before .before .before .before .before .before in
+    let b = c .before .before in
+    let t = loopAt b in
     let s = start t in
-    halving-up (order s) (s .args .from) (end s) (t .loop .lo) (t .loop .hi) (t .loop .inv) (search needs) (cc)
+    halving-up (order s) (s .args .from) (end s) (t .loop .lo) (t .loop .hi) (t .loop .inv) (search needs) (sym (middle b) ∙ c .enum-told .given .1)
 
 enum-told-2 : tie.Need-enum-told-2 Inv-loop μ-loop
 enum-told-2 c = search needs
 
 returns : tie.Need-returns Inv-loop μ-loop
-unfolding rowOrder
 returns c =
-    let t = c .before .before .before .before .before .before in
+    let b = c .before .before in
+    let t = loopAt b in
     let s = start t in
-    halving-found (order s) (s .args .from) (end s) (t .loop .lo) (t .loop .hi) (t .loop .inv) (search needs) (cc)
+    halving-found (order s) (s .args .from) (end s) (t .loop .lo) (t .loop .hi) (t .loop .inv) (search needs) (sym (middle b) ∙ c .enum-told2 .given .1)
 
 enum-told-3 : tie.Need-enum-told-3 Inv-loop μ-loop
 enum-told-3 c = search needs
@@ -79,11 +93,11 @@ loop-less-2 : tie.Need-loop-less-2 Inv-loop μ-loop
 loop-less-2 c = search needs
 
 loop-again-2 : tie.Need-loop-again-2 Inv-loop μ-loop
-unfolding rowOrder
 loop-again-2 c =
-    let t = c .before .before .before .before .before .before in
+    let b = c .before .before in
+    let t = loopAt b in
     let s = start t in
-    halving-down (order s) (s .args .from) (end s) (t .loop .lo) (t .loop .hi) (t .loop .inv) (search needs) (cc)
+    halving-down (order s) (s .args .from) (end s) (t .loop .lo) (t .loop .hi) (t .loop .inv) (search needs) (sym (middle b) ∙ c .enum-told3 .given .1)
 
 returns-2 : tie.Need-returns-2 Inv-loop μ-loop
 returns-2 c =

@@ -1,8 +1,9 @@
 -- `model::texts::bad_piece` meets its contract. The loop's invariant: what the strings from `i` on say is what all say.
-use mathlib.Core.Path.{_≡_, refl, sym, _∙_}
+use mathlib.Core.Path.{_≡_, refl, sym, ap, _∙_}
 use Prim.Native.Nat.{_-_, _≤_}
 use borrow.Author.Needs.{needs}
-use lib.ListN.{length, drop}
+use mathlib.Core.List.{[]}
+use lib.ListN.{length, drop, getD}
 use Rattle.utf8.specs.Lists.{any}
 use Rattle.model.specs.Model.{strings}
 use Rattle.model.specs.Check.{neitherTextNorByte, badPiece}
@@ -15,6 +16,11 @@ Inv-loop bytes offsets i₀ i = (i ≤ length offsets) × (badPiece (strings byt
 
 abbrev μ-loop : tie.MeasureT-loop
 μ-loop bytes offsets i₀ i = length offsets - i
+
+-- what the test says of the string at the loop's place
+tested : (n : tie.After-neither-text-nor-byte Inv-loop μ-loop)
+    → let st = n .before .before .before .before .before .before .args in n .neither-text-nor-byte .result ≡ neitherTextNorByte (getD (strings (st .bytes .now) (st .offsets .now)) (n .before .before .before .loop .i) [])
+tested n = n .neither-text-nor-byte .ensures ∙ ap neitherTextNorByte (n .before .string-at .ensures)
 
 loop-holds : tie.Need-loop-holds Inv-loop μ-loop
 unfolding badPiece
@@ -33,7 +39,7 @@ returns : tie.Need-returns Inv-loop μ-loop
 returns c =
     let l = c .before .before .before .before .loop in
     let st = c .before .before .before .before .before .before .before .args in
-    sym (l .inv .1 ∙ any-string-found neitherTextNorByte (st .bytes .now) (st .offsets .now) (l .i) (search needs) (cc))
+    sym (l .inv .1 ∙ any-string-found neitherTextNorByte (st .bytes .now) (st .offsets .now) (l .i) (search needs) (sym (tested (c .before)) ∙ c .if1 .taken))
 
 add-i : tie.Need-add-i Inv-loop μ-loop
 add-i c = search needs
@@ -45,7 +51,7 @@ loop-again : tie.Need-loop-again Inv-loop μ-loop
 loop-again c =
     let l = c .before .before .before .before .loop in
     let st = c .before .before .before .before .before .before .before .args in
-    (search needs, l .inv .1 ∙ any-string-next neitherTextNorByte (st .bytes .now) (st .offsets .now) (l .i) (search needs) (cc))
+    (search needs, l .inv .1 ∙ any-string-next neitherTextNorByte (st .bytes .now) (st .offsets .now) (l .i) (search needs) (sym (tested (c .before)) ∙ c .if1 .left))
 
 returns-2 : tie.Need-returns-2 Inv-loop μ-loop
 returns-2 c =

@@ -12,7 +12,7 @@ use Rattle.utf8.proofs.Places.{empty-by-length}
 use Rattle.model.specs.Answers.{filled}
 use Rattle.model.specs.Model.{strings}
 use Rattle.model.proofs.StringLaws.{length-strings}
-use Rattle.units.specs.Derived.{rawPathBy}
+use Rattle.units.specs.inner.Path.{rawPathBy}
 use Rattle.prepare.specs.Layout.{indexRow}
 use Rattle.prepare.specs.inner.Derive.{indexOf}
 use Rattle.prepare.proofs.LayoutLaws.{length-index}

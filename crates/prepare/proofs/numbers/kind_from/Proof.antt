@@ -1,6 +1,6 @@
 -- `prepare::numbers::kind_from` meets its contract: by the tests that it makes.
 use borrow.Author.Tests.{eq-eqb, ne-eqb}
-use Rattle.prepare.specs.Numbers.{kindFrom}
+use Rattle.prepare.specs.inner.Read.{kindFrom}
 use Rattle.prepare.proofs.numbers.kind_from.Statement.{statement}
 use Rattle.prepare.proofs.numbers.kind_from.Tie as tie
 

@@ -1,6 +1,6 @@
 -- `prepare::numbers::raw_path_from` meets its contract: by the tests that it makes.
 use borrow.Author.Tests.{eq-eqb, ne-eqb}
-use Rattle.prepare.specs.Numbers.{rawPathFrom}
+use Rattle.prepare.specs.inner.Read.{rawPathFrom}
 use Rattle.prepare.proofs.numbers.raw_path_from.Statement.{statement}
 use Rattle.prepare.proofs.numbers.raw_path_from.Tie as tie
 

@@ -1,5 +1,5 @@
 -- `stretches::each::encode_each` meets its contract. The loop's invariant: the units before `from` are written, and those from there on follow.
-use Prim.Native.Nat.{ℕ, _-_, _≤_}
+use Prim.Native.Nat.{ℕ, _-_, _≤_, _*_, _<_}
 use mathlib.Core.Bool.{Bool, false}
 use mathlib.Core.Option.{Option}
 use mathlib.Core.List.{List, []}
@@ -7,10 +7,9 @@ use native.Mathlib.Omega.{arith}
 use borrow.Author.Needs.{needs}
 use lib.ListN.{length, take, drop}
 use Rattle.model.specs.Model.{Row, strings}
-use Rattle.units.specs.Units.{cutBy}
-use Rattle.units.specs.Adjacency.{pairNoted}
-use Rattle.units.specs.Derived.{namedCrossings}
-use Rattle.units.specs.Next.{unitsFrom}
+use Rattle.units.specs.Units.{beginsUnit}
+use Rattle.units.specs.inner.Read.{pairNoted, namedCrossings}
+use Rattle.units.specs.inner.Next.{unitsFrom}
 use Rattle.merge.specs.Start.{withVirtualMark}
 use Rattle.merge.specs.inner.Laid.{ownFound, markedChars}
 use Rattle.merge.specs.inner.Turns.{rowIn}
@@ -24,7 +23,7 @@ abbrev Inv-loop : tie.InvT-loop
 Inv-loop kind noted count adjacency piece-bytes piece-offsets lookup fallback first-bytes mark-id left right result rank row-index shift section raw start₀ out₀ from₀ written₀ out from written =
     let row = rowIn left right result rank row-index shift in
     let own = ownFound piece-bytes piece-offsets lookup first-bytes mark-id in
-    let cuts = cutBy kind (namedCrossings (strings piece-bytes piece-offsets) noted count) (pairNoted adjacency) raw section in
+    let cuts = beginsUnit kind (namedCrossings (strings piece-bytes piece-offsets) noted count) (pairNoted adjacency) raw section in
     (from ≤ length section)
     × Going (unitWriters row own fallback false raw (unitsFrom cuts section start₀)) (unitWriters row own fallback false raw (unitsFrom cuts section from)) out₀ out written
 
@@ -42,7 +41,7 @@ abbrev ownOf : tie.Start Inv-loop μ-loop → List ℕ → Option ℕ
 ownOf s = ownFound (s .args .piece-bytes .now) (s .args .piece-offsets .now) (s .args .lookup .now) (s .args .first-bytes .now) (s .args .mark-id)
 
 abbrev cutsOf : tie.Start Inv-loop μ-loop → ℕ → Bool
-cutsOf s = cutBy (s .args .kind) (namedCrossings (strings (s .args .piece-bytes .now) (s .args .piece-offsets .now)) (s .args .noted .now) (s .args .count)) (pairNoted (s .args .adjacency .now)) (s .args .raw) (s .args .section .now)
+cutsOf s = beginsUnit (s .args .kind) (namedCrossings (strings (s .args .piece-bytes .now) (s .args .piece-offsets .now)) (s .args .noted .now) (s .args .count)) (pairNoted (s .args .adjacency .now)) (s .args .raw) (s .args .section .now)
 
 -- The unit that is written next.
 here : (f : tie.After-next-unit Inv-loop μ-loop) → NextUnit (cutsOf (start (f .before .before))) (start (f .before .before) .args .section .now) (f .before .loop .from) (f .next-unit .result)
@@ -53,6 +52,10 @@ here f =
 -- Its characters.
 abbrev charsOf : tie.After-next-unit Inv-loop μ-loop → List (List ℕ)
 charsOf f = markedChars false (start (f .before .before) .args .raw) (take (f .next-unit .result - f .before .loop .from) (drop (f .before .loop .from) (start (f .before .before) .args .section .now)))
+
+-- The result is no longer than any slice of words.
+out-fits : (s : tie.Start Inv-loop μ-loop) → (length (s .args .out .now) < 18446744073709551616) × (length (s .args .out .now) * 4 < 9223372036854775808)
+out-fits s = s .good .1 .1 .1 .1 .1 .1 .1 .1 .1 .1 .1 .1 .1 .1 .1 .1 .1 .1 .1 .0
 
 loop-holds : tie.Need-loop-holds Inv-loop μ-loop
 loop-holds c = (start c .pre, going-start _ _)
@@ -72,7 +75,7 @@ part-encode-unit-end c = here c .ends
 mul-encode-unit : tie.Need-mul-encode-unit Inv-loop μ-loop
 mul-encode-unit c =
     let a = c .before .before in
-    omega (arith, start (a .before) .good .1 .1 .1 .1 .1 .1 .1 .1 .1 .1 .1 .1 .1 .1 .1 .1 .1 .1 .1 .0 .1, a .loop .inv .1 .within, a .loop .inv .1 .long)
+    omega (arith, out-fits (start (a .before)) .1, a .loop .inv .1 .within, a .loop .inv .1 .long)
 
 sub-encode-unit-2 : tie.Need-sub-encode-unit-2 Inv-loop μ-loop
 sub-encode-unit-2 c = c .before .before .loop .inv .1 .within
@@ -92,7 +95,7 @@ add-written c =
     let f = e .before .before .before in
     let s = start (f .before .before) in
     omega
-    (arith, s .good .1 .1 .1 .1 .1 .1 .1 .1 .1 .1 .1 .1 .1 .1 .1 .1 .1 .1 .1 .0 .0, going-fits (f .before .loop .inv .1) (unitWriter (rowOf s) (ownOf s) (s .args .fallback .now) (charsOf f)) (keeps-unit (rowOf s) (ownOf s) (s .args .fallback .now) (charsOf f)) (e .encode-unit .ensures))
+    (arith, out-fits s .0, going-fits (f .before .loop .inv .1) (unitWriter (rowOf s) (ownOf s) (s .args .fallback .now) (charsOf f)) (keeps-unit (rowOf s) (ownOf s) (s .args .fallback .now) (charsOf f)) (e .encode-unit .ensures))
 
 loop-less : tie.Need-loop-less Inv-loop μ-loop
 loop-less c =

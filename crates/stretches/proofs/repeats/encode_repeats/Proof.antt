@@ -1,6 +1,6 @@
 -- `stretches::repeats::encode_repeats` meets its contract. The loop's invariant: the units before `from` are written and those from there on follow,
 -- and what each slot remembers holds.
-use Prim.Native.Nat.{ℕ, _-_, _≤_, _<_}
+use Prim.Native.Nat.{ℕ, _-_, _≤_, _<_, _*_}
 use mathlib.Core.Path.{_≡_, refl, sym, _∙_}
 use mathlib.Core.Bool.{Bool, false}
 use mathlib.Core.Option.{Option}
@@ -9,10 +9,9 @@ use native.Mathlib.Omega.{arith}
 use borrow.Author.Needs.{needs}
 use lib.ListN.{length, take, drop, getD, length-take, length-drop}
 use Rattle.model.specs.Model.{Row, strings}
-use Rattle.units.specs.Units.{cutBy}
-use Rattle.units.specs.Adjacency.{pairNoted}
-use Rattle.units.specs.Derived.{namedCrossings}
-use Rattle.units.specs.Next.{unitsFrom}
+use Rattle.units.specs.Units.{beginsUnit}
+use Rattle.units.specs.inner.Read.{pairNoted, namedCrossings}
+use Rattle.units.specs.inner.Next.{unitsFrom}
 use Rattle.merge.specs.Start.{withVirtualMark}
 use Rattle.merge.specs.inner.Laid.{ownFound, markedChars}
 use Rattle.merge.specs.inner.Turns.{rowIn}
@@ -28,7 +27,7 @@ abbrev Inv-loop : tie.InvT-loop
 Inv-loop kind noted count adjacency piece-bytes piece-offsets lookup fallback first-bytes mark-id left right result rank row-index shift section raw start₀ out₀ seen₀ from₀ written₀ out seen from written =
     let row = rowIn left right result rank row-index shift in
     let own = ownFound piece-bytes piece-offsets lookup first-bytes mark-id in
-    let cuts = cutBy kind (namedCrossings (strings piece-bytes piece-offsets) noted count) (pairNoted adjacency) raw section in
+    let cuts = beginsUnit kind (namedCrossings (strings piece-bytes piece-offsets) noted count) (pairNoted adjacency) raw section in
     (from ≤ length section)
     × Going (unitWriters row own fallback false raw (unitsFrom cuts section start₀)) (unitWriters row own fallback false raw (unitsFrom cuts section from)) out₀ out written
     × Table row own fallback raw section out written 8192 seen
@@ -65,7 +64,7 @@ abbrev ownOf : tie.Start Inv-loop μ-loop → List ℕ → Option ℕ
 ownOf s = ownFound (s .args .piece-bytes .now) (s .args .piece-offsets .now) (s .args .lookup .now) (s .args .first-bytes .now) (s .args .mark-id)
 
 abbrev cutsOf : tie.Start Inv-loop μ-loop → ℕ → Bool
-cutsOf s = cutBy (s .args .kind) (namedCrossings (strings (s .args .piece-bytes .now) (s .args .piece-offsets .now)) (s .args .noted .now) (s .args .count)) (pairNoted (s .args .adjacency .now)) (s .args .raw) (s .args .section .now)
+cutsOf s = beginsUnit (s .args .kind) (namedCrossings (strings (s .args .piece-bytes .now) (s .args .piece-offsets .now)) (s .args .noted .now) (s .args .count)) (pairNoted (s .args .adjacency .now)) (s .args .raw) (s .args .section .now)
 
 -- The unit that is written next.
 here : (f : tie.After-next-unit Inv-loop μ-loop) → NextUnit (cutsOf (start (f .before .before))) (start (f .before .before) .args .section .now) (f .before .loop .from) (f .next-unit .result)
@@ -123,6 +122,10 @@ repeats t =
 narrow : (f : tie.After-next-unit Inv-loop μ-loop) → (length (start (f .before .before) .args .section .now) < 4294967296) × (length (f .before .loop .out) < 4294967296)
 narrow f = let s = start (f .before .before) in (s .pre .1 .0, omega (arith, s .pre .1 .1, f .before .loop .inv .1 .long))
 
+-- The result is no longer than any slice of words.
+out-fits : (s : tie.Start Inv-loop μ-loop) → (length (s .args .out .now) < 18446744073709551616) × (length (s .args .out .now) * 4 < 9223372036854775808)
+out-fits s = s .good .1 .1 .1 .1 .1 .1 .1 .1 .1 .1 .1 .1 .1 .1 .1 .1 .1 .1 .1 .0
+
 loop-holds : tie.Need-loop-holds Inv-loop μ-loop
 loop-holds c = (start c .pre .0, going-start _ _, table-start (start c .args .out .now))
 
@@ -170,7 +173,7 @@ add-written c =
     let t = branch (copied c) in
     let f = found (t .before) .before in
     let a = repeats t in
-    omega (arith, start (f .before .before) .good .1 .1 .1 .1 .1 .1 .1 .1 .1 .1 .1 .1 .1 .1 .1 .1 .1 .1 .1 .0 .0, a .room, a .few, f .before .loop .inv .1 .long)
+    omega (arith, out-fits (start (f .before .before)) .0, a .room, a .few, f .before .loop .inv .1 .long)
 
 returns : tie.Need-returns Inv-loop μ-loop
 returns c =
@@ -213,7 +216,7 @@ part-encode-started-end c = here (found (c .before) .before) .ends
 mul-encode-started : tie.Need-mul-encode-started Inv-loop μ-loop
 mul-encode-started c =
     let a = found (c .before .before) .before .before in
-    omega (arith, start (a .before) .good .1 .1 .1 .1 .1 .1 .1 .1 .1 .1 .1 .1 .1 .1 .1 .1 .1 .1 .1 .0 .1, a .loop .inv .1 .within, a .loop .inv .1 .long)
+    omega (arith, out-fits (start (a .before)) .1, a .loop .inv .1 .within, a .loop .inv .1 .long)
 
 sub-encode-started-2 : tie.Need-sub-encode-started-2 Inv-loop μ-loop
 sub-encode-started-2 c = found (c .before .before) .before .before .loop .inv .1 .within
@@ -265,7 +268,7 @@ add-written-2 : tie.Need-add-written-2 Inv-loop μ-loop
 add-written-2 c =
     let e = encoded (c .before) in
     let f = found-new e .before in
-    omega (arith, start (f .before .before) .good .1 .1 .1 .1 .1 .1 .1 .1 .1 .1 .1 .1 .1 .1 .1 .1 .1 .1 .1 .0 .0, going-fits (f .before .loop .inv .1) (writerOf f) (keeps f) (e .encode-started .ensures .0))
+    omega (arith, out-fits (start (f .before .before)) .0, going-fits (f .before .loop .inv .1) (writerOf f) (keeps f) (e .encode-started .ensures .0))
 
 returns-2 : tie.Need-returns-2 Inv-loop μ-loop
 returns-2 c =

@@ -3,7 +3,7 @@ use borrow.Author.Needs.{needs}
 use mathlib.Core.Path.{ap, _∙_}
 use lib.ListN.{length}
 use Rattle.merge.specs.inner.Turns.{Merged}
-use Rattle.prepare.specs.Numbers.{kindFrom}
+use Rattle.prepare.specs.inner.Read.{kindFrom}
 use Rattle.stretches.proofs.PartLaws.{stretch-found, keeps-stretch}
 use Rattle.stretches.proofs.stretch.encode_by_rows.Statement.{statement}
 use Rattle.stretches.proofs.stretch.encode_by_rows.Tie as tie

@@ -1,5 +1,5 @@
 -- `stretches::stretch::encode_units` meets its contract: the first unit, and then the others behind it.
-use Prim.Native.Nat.{ℕ, _-_, _≤_}
+use Prim.Native.Nat.{ℕ, _-_, _≤_, _*_, _<_}
 use mathlib.Core.Bool.{Bool}
 use mathlib.Core.Path.{_≡_, ap, _∙_}
 use mathlib.Core.Option.{Option}
@@ -8,10 +8,9 @@ use native.Mathlib.Omega.{arith}
 use borrow.Author.Needs.{needs}
 use lib.ListN.{length, take, drop, length-take}
 use Rattle.model.specs.Model.{Row, strings}
-use Rattle.units.specs.Units.{cutBy}
-use Rattle.units.specs.Adjacency.{pairNoted}
-use Rattle.units.specs.Derived.{namedCrossings}
-use Rattle.units.specs.Next.{unitsFrom}
+use Rattle.units.specs.Units.{beginsUnit}
+use Rattle.units.specs.inner.Read.{pairNoted, namedCrossings}
+use Rattle.units.specs.inner.Next.{unitsFrom}
 use Rattle.merge.specs.inner.Laid.{ownFound, markedChars}
 use Rattle.merge.specs.inner.Turns.{rowIn, Merged}
 use Rattle.stretches.specs.inner.Writers.{Writer, unitWriter}
@@ -31,10 +30,21 @@ abbrev ownOf : tie.Start → List ℕ → Option ℕ
 ownOf s = ownFound (s .args .piece-bytes .now) (s .args .piece-offsets .now) (s .args .lookup .now) (s .args .first-bytes .now) (s .args .mark-id)
 
 abbrev cutsOf : tie.Start → ℕ → Bool
-cutsOf s = cutBy (s .args .kind) (namedCrossings (strings (s .args .piece-bytes .now) (s .args .piece-offsets .now)) (s .args .noted .now) (s .args .count)) (pairNoted (s .args .adjacency .now)) (s .args .raw) (s .args .section .now)
+cutsOf s = beginsUnit (s .args .kind) (namedCrossings (strings (s .args .piece-bytes .now) (s .args .piece-offsets .now)) (s .args .noted .now) (s .args .count)) (pairNoted (s .args .adjacency .now)) (s .args .raw) (s .args .section .now)
 
 abbrev startAt : tie.After-next-unit → tie.Start
 startAt f = start (f .before)
+
+-- The ways back from where units are left to the first unit's ids, and from there to where it ends.
+abbrev wrote : tie.Else1 → tie.After-encode-unit
+wrote e = e .before .before .before
+
+abbrev unitAt : tie.After-encode-unit → tie.After-next-unit
+unitAt w = w .before .before .before
+
+-- The result is no longer than any slice of words.
+out-fits : (s : tie.Start) → (length (s .args .out .now) < 18446744073709551616) × (length (s .args .out .now) * 4 < 9223372036854775808)
+out-fits s = s .good .1 .1 .1 .1 .1 .1 .1 .1 .1 .1 .1 .1 .1 .1 .1 .1 .1 .1 .1 .0
 
 -- The first unit, and its writer.
 here : (f : tie.After-next-unit) → NextUnit (cutsOf (startAt f)) (startAt f .args .section .now) 0 (f .next-unit .result)
@@ -83,7 +93,7 @@ returns c =
     one-unit (rowOf s) (ownOf s) (s .args .fallback .now) (s .args .raw) (s .args .virtual-mark) (cutsOf s) (s .args .section .now) (f .next-unit .result) (here f) (s .args .out .now) (w .encode-unit .ensures) (c .if1 .taken)
 
 mul-encode-rest : tie.Need-mul-encode-rest
-mul-encode-rest c = let w = c .before .before .before in omega (arith, startAt (w .before .before .before) .good .1 .1 .1 .1 .1 .1 .1 .1 .1 .1 .1 .1 .1 .1 .1 .1 .1 .1 .1 .0 .1, inside w .0, inside w .1)
+mul-encode-rest c = let w = wrote c in omega (arith, out-fits (startAt (unitAt w)) .1, inside w .0, inside w .1)
 
 sub-encode-rest : tie.Need-sub-encode-rest
 sub-encode-rest c = inside (c .before .before .before) .0
@@ -104,20 +114,20 @@ add-result c =
     let f = w .before .before .before in
     let s = startAt f in
     let tail = take (length (firstLeft w) - w .encode-unit .result) (drop (w .encode-unit .result) (firstLeft w)) in
-    omega (arith, s .good .1 .1 .1 .1 .1 .1 .1 .1 .1 .1 .1 .1 .1 .1 .1 .1 .1 .1 .1 .0 .0, inside w .0, inside w .1, ap (λ (d : Merged). d .count) (r .encode-rest .ensures), keeps-units (rowOf s) (ownOf s) (s .args .fallback .now) (s .args .raw) (unitsFrom (cutsOf s) (s .args .section .now) (f .next-unit .result)) .inside tail, length-take (length (firstLeft w) - w .encode-unit .result) (drop (w .encode-unit .result) (firstLeft w)))
+    omega (arith, out-fits s .0, inside w .0, inside w .1, ap (λ (d : Merged). d .count) (r .encode-rest .ensures), keeps-units (rowOf s) (ownOf s) (s .args .fallback .now) (s .args .raw) (unitsFrom (cutsOf s) (s .args .section .now) (f .next-unit .result)) .inside tail, length-take (length (firstLeft w) - w .encode-unit .result) (drop (w .encode-unit .result) (firstLeft w)))
 
 returns-2 : tie.Need-returns-2
 returns-2 c =
     let r = c .before .before in
     let e = r .before .before in
-    let w = e .before .before .before in
-    let f = w .before .before .before in
+    let w = wrote e in
+    let f = unitAt w in
     let s = startAt f in
     more-units (rowOf s) (ownOf s) (s .args .fallback .now) (s .args .raw) (s .args .virtual-mark) (cutsOf s) (s .args .section .now) (f .next-unit .result) (here f) (s .args .out .now) (w .encode-unit .ensures) (e .if1 .left) (r .encode-rest .ensures)
 
 same-length-2 : tie.Need-same-length-2
 same-length-2 c =
-    let s = startAt (c .before .before .before .before .before .before .before .before .before .before) in
+    let s = startAt (unitAt (wrote (c .before .before .before .before))) in
     ap (λ (d : Merged). length (d .ids)) (returns-2 c) ∙ keeps-stretch-by (rowOf s) (ownOf s) (s .args .fallback .now) (s .args .raw) (s .args .virtual-mark) (cutsOf s) (s .args .section .now) .long (s .args .out .now)
 
 pub encode-units-spec : {M : Type 1} → statement M

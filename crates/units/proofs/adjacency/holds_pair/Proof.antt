@@ -3,7 +3,7 @@ use Prim.Native.Nat.{_+_, _*_, _/_, _%_, _≤_}
 use mathlib.Core.Path.{sym}
 use borrow.Author.Needs.{needs}
 use lib.ListN.{length, List·getD-eq-default}
-use Rattle.units.specs.Adjacency.{pairNoted}
+use Rattle.units.specs.inner.Read.{pairNoted}
 use Rattle.units.proofs.AdjacencyLaws.{no-bit}
 use Rattle.units.proofs.adjacency.holds_pair.Statement.{statement}
 use Rattle.units.proofs.adjacency.holds_pair.Tie as tie

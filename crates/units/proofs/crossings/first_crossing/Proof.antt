@@ -3,7 +3,7 @@ use mathlib.Core.Path.{_≡_, sym, _∙_}
 use Prim.Native.Nat.{_-_, _<_}
 use borrow.Author.Needs.{needs}
 use Rattle.units.specs.Kinds.{crossesAt}
-use Rattle.units.specs.Next.{nextUnit}
+use Rattle.units.specs.inner.Next.{nextUnit}
 use Rattle.units.proofs.NextLaws.{searchFrom, search-start, search-found, search-next, search-ended}
 use Rattle.units.proofs.CrossingLaws.{uncrossed-byte}
 use lib.ListN.{length}

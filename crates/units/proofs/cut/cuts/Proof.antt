@@ -6,8 +6,7 @@ use Prim.Native.Nat.{ℕ}
 use borrow.Author.Needs.{needs}
 use Rattle.model.specs.Model.{strings}
 use Rattle.units.specs.Kinds.{Crossing}
-use Rattle.units.specs.Adjacency.{pairNoted}
-use Rattle.units.specs.Derived.{namedCrossings}
+use Rattle.units.specs.inner.Read.{pairNoted, namedCrossings}
 use Rattle.units.proofs.StartLaws.{uncut-first, uncut-past, cut-punctuation, cut-mark}
 use Rattle.units.proofs.cut.cuts.Statement.{statement}
 use Rattle.units.proofs.cut.cuts.Tie as tie

@@ -8,7 +8,7 @@ use borrow.Author.Needs.{needs}
 use Rattle.model.specs.Mark.{markWidth, endsWithMark}
 use Rattle.model.specs.Model.{strings}
 use Rattle.units.specs.Kinds.{Crossing}
-use Rattle.units.specs.Derived.{namedCrossings}
+use Rattle.units.specs.inner.Read.{namedCrossings}
 use Rattle.units.proofs.StartLaws.{width-at, uncut-no-mark, uncut-none, cut-every, uncut-run, cut-unspanned}
 use lib.ListN.{drop}
 use Rattle.units.proofs.cut.mark_cuts.Statement.{statement}

@@ -7,10 +7,9 @@ use borrow.Author.Needs.{needs}
 use borrow.Author.Tests.{not-true}
 use Rattle.model.specs.Model.{strings}
 use Rattle.units.specs.Kinds.{Crossing}
-use Rattle.units.specs.Units.{cutBy}
-use Rattle.units.specs.Adjacency.{pairNoted}
-use Rattle.units.specs.Derived.{namedCrossings}
-use Rattle.units.specs.Next.{nextUnit}
+use Rattle.units.specs.Units.{beginsUnit}
+use Rattle.units.specs.inner.Read.{pairNoted, namedCrossings}
+use Rattle.units.specs.inner.Next.{nextUnit}
 use Rattle.units.proofs.StartLaws.{uncut-byte}
 use Rattle.units.proofs.NextLaws.{searchFrom, search-start, search-found, search-next, search-ended, next-past}
 use lib.ListN.{length}
@@ -18,7 +17,7 @@ use Rattle.units.proofs.cut.next_unit.Statement.{statement}
 use Rattle.units.proofs.cut.next_unit.Tie as tie
 
 abbrev Inv-loop : tie.InvT-loop
-Inv-loop kind piece-bytes piece-offsets noted count adjacency raw section from p₀ p = (from < p) × (p ≤ length section) × (nextUnit (cutBy kind (namedCrossings (strings piece-bytes piece-offsets) noted count) (pairNoted adjacency) raw section) section from ≡ searchFrom (cutBy kind (namedCrossings (strings piece-bytes piece-offsets) noted count) (pairNoted adjacency) raw section) section p)
+Inv-loop kind piece-bytes piece-offsets noted count adjacency raw section from p₀ p = (from < p) × (p ≤ length section) × (nextUnit (beginsUnit kind (namedCrossings (strings piece-bytes piece-offsets) noted count) (pairNoted adjacency) raw section) section from ≡ searchFrom (beginsUnit kind (namedCrossings (strings piece-bytes piece-offsets) noted count) (pairNoted adjacency) raw section) section p)
 
 abbrev μ-loop : tie.MeasureT-loop
 μ-loop kind piece-bytes piece-offsets noted count adjacency raw section from p₀ p = length section - p
@@ -35,7 +34,7 @@ module _ (k : tie.After-shared-slice-known5 Inv-loop μ-loop) where
 
   -- whether a unit starts at a place
   abbrev cutting : ℕ → Bool
-  cutting = cutBy (start k .args .kind) crossings holds (start k .args .raw) (start k .args .section .now)
+  cutting = beginsUnit (start k .args .kind) crossings holds (start k .args .raw) (start k .args .section .now)
 
 returns : tie.Need-returns Inv-loop μ-loop
 returns c =

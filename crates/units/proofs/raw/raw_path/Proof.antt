@@ -2,7 +2,7 @@
 use mathlib.Core.Bool.{or-true}
 use borrow.Author.Needs.{needs}
 use borrow.Author.Tests.{not-true, not-false}
-use Rattle.units.specs.Derived.{rawPathBy}
+use Rattle.units.specs.inner.Path.{rawPathBy}
 use Rattle.units.proofs.RawLaws.{divided, divided-not}
 use Rattle.units.proofs.raw.raw_path.Statement.{statement}
 use Rattle.units.proofs.raw.raw_path.Tie as tie

@@ -2,7 +2,7 @@
 use mathlib.Core.Path.{_∙_}
 use borrow.Author.Needs.{needs}
 use Rattle.model.specs.Model.{strings}
-use Rattle.units.specs.Derived.{namedCrossings}
+use Rattle.units.specs.inner.Read.{namedCrossings}
 use Rattle.units.proofs.SpanLaws.{spanned-by}
 use Rattle.units.proofs.spans.piece_spans_boundary.Statement.{statement}
 use Rattle.units.proofs.spans.piece_spans_boundary.Tie as tie

@@ -4,7 +4,7 @@ use Prim.Native.Nat.{_+_, _-_, _≤_}
 use borrow.Author.Needs.{needs}
 use Rattle.utf8.specs.Lists.{any}
 use Rattle.model.specs.Model.{strings}
-use Rattle.units.specs.Derived.{namedCrossings}
+use Rattle.units.specs.inner.Read.{namedCrossings}
 use Rattle.units.specs.inner.Around.{around}
 use Rattle.units.proofs.SpanLaws.{crossing-read, named-start, named-found, named-next, named-short, named-ended}
 use lib.ListN.{length, drop, getD}
