@@ -1,5 +1,8 @@
 // Captions to token ids and back, by the proved calls: `captions --help` says what it does. Without arguments it shows the whole way of a
 // short script on the embedded model.
+
+#![tactic(auto)]
+
 mod calls;
 mod embedded;
 mod help;

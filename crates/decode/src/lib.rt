@@ -1,6 +1,8 @@
 // Ids back to text: the pieces joined, stray bytes replaced, marks as spaces. Defined in specs/Decode.antt; what the state stands for that
 // bytes are fed to is in specs/inner/Feeding.antt.
 
+#![tactic(auto)]
+
 mod feed;
 mod forms;
 mod pass;
@@ -27,7 +29,7 @@ use skips::count_skips;
 use space::prepends_space;
 
 // What the bytes fed so far leave open: the bytes of a character that is not whole yet, and whether a first character was settled.
-#[derive(Drop)]
+#[derive(Clone, Copy)]
 pub struct Decoder {
     pub count: u8,
     pub first: u8,
@@ -37,7 +39,7 @@ pub struct Decoder {
 }
 
 // The state, and the place in the buffer that comes next.
-#[derive(Drop)]
+#[derive(Clone, Copy)]
 pub struct Progress {
     pub decoder: Decoder,
     pub at: usize,

@@ -1,4 +1,7 @@
 // Text to ids. Defined in specs/Encode.antt, over the parts of a text in specs/Parts.antt.
+
+#![tactic(auto)]
+
 mod held;
 mod marks;
 mod normal;
@@ -25,7 +28,7 @@ use units::RawPath;
 use utf8::chars::valid_prefix;
 
 // What the first pass finds.
-#[derive(Drop)]
+#[derive(Clone, Copy)]
 pub enum Counted {
     Counts { count: usize, drops: usize },
     // An output of a step or of metaspace is too long for the scratch buffers.

@@ -1,5 +1,7 @@
 // Where a text may be cut for workers. Defined in specs/Fragments.antt, over the safe places of specs/Safe.antt.
 
+#![tactic(auto)]
+
 mod ahead;
 mod back;
 mod ends;
@@ -24,7 +26,7 @@ use units::RawPath;
 use utf8::chars::valid_prefix;
 
 // Whether a place is blocked.
-#[derive(Drop)]
+#[derive(Clone, Copy)]
 pub(crate) enum Verdict {
     // It is, and so are all places behind it up to this one.
     Blocked(usize),
@@ -33,7 +35,7 @@ pub(crate) enum Verdict {
 }
 
 // Where a text is cut next, and up to where no place has a token with lstrip ahead.
-#[derive(Drop)]
+#[derive(Clone, Copy)]
 pub(crate) struct Cut {
     pub place: usize,
     pub ahead: usize,

@@ -1,5 +1,8 @@
 // Searches in the two sorted tables that begin from what was derived of them once. What that is stands in specs/Index.antt, where such a
 // search ends in specs/inner/Find.antt.
+
+#![tactic(auto)]
+
 ghost use Rattle.std.specs.Prelude.{◌≡◌, ◌/◌, ◌^◌, ◌<◌, get_or};
 ghost use Rattle.utf8.specs.Lists.{same};
 ghost use Rattle.model.specs.Mark.{mark};
@@ -16,7 +19,7 @@ use model::search::{find_piece_between, find_row_between};
 use model::tables::{number_at, wide};
 
 // What a word of a pair table tells of a pair.
-#[derive(Drop)]
+#[derive(Clone, Copy)]
 pub enum Told {
     // The place of the pair's row.
     Row(usize),

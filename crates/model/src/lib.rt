@@ -1,5 +1,8 @@
 // The model's types, and its check. The tables themselves are lent as slices, one a column; what they mean is in specs/Model.antt
 // and specs/Mark.antt, the check in specs/Check.antt, what a call leaves in specs/Answers.antt.
+
+#![tactic(auto)]
+
 ghost use Rattle.std.specs.Prelude.{◌≡◌};
 ghost use Rattle.model.specs.Model.{model_of, token_list};
 ghost use Rattle.model.specs.Answers.{done, refused};
@@ -27,14 +30,14 @@ pub mod tables;
 mod texts;
 
 // A string of the step bytes: `len` bytes from `place` on.
-#[derive(Drop)]
+#[derive(Clone, Copy)]
 pub struct Span {
     pub place: u32,
     pub len: u32,
 }
 
 // One step of the normalization.
-#[derive(Drop)]
+#[derive(Clone, Copy)]
 pub enum Step {
     // Puts the string in front of a text that is not empty.
     Prepend(Span),
@@ -47,7 +50,7 @@ pub enum Step {
 }
 
 // When Metaspace puts a mark in front.
-#[derive(Drop)]
+#[derive(Clone, Copy)]
 pub enum PrependScheme {
     Never,
     Always,
@@ -55,7 +58,7 @@ pub enum PrependScheme {
     First,
 }
 
-#[derive(Drop)]
+#[derive(Clone, Copy)]
 pub enum Metaspace {
     Absent,
     Present { prepend: PrependScheme, split: bool },
@@ -63,7 +66,7 @@ pub enum Metaspace {
 
 // What every call answers: the number (rule 3.1), the place that a 9 names, and the three counts.
 #[repr(C)]
-#[derive(Drop)]
+#[derive(Clone, Copy)]
 pub struct Answer {
     pub number: u32,
     pub place: usize,
@@ -73,7 +76,7 @@ pub struct Answer {
 }
 
 // How one entry stands to another.
-#[derive(Drop)]
+#[derive(Clone, Copy)]
 pub enum Order {
     Less,
     Equal,
@@ -81,7 +84,7 @@ pub enum Order {
 }
 
 // What a search in a table gives.
-#[derive(Drop)]
+#[derive(Clone, Copy)]
 pub enum Found {
     // The place of the entry.
     At(usize),

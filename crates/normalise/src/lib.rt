@@ -1,5 +1,7 @@
 // The normalization: steps and metaspace. Defined in specs/Steps.antt and specs/Spaces.antt, the call in specs/Normalise.antt.
 
+#![tactic(auto)]
+
 mod collapse;
 mod copy;
 pub mod finish;
@@ -26,14 +28,14 @@ use run::{run_metaspace, run_steps};
 use utf8::chars::valid_prefix;
 
 // The length of an output, where there is room for it.
-#[derive(Drop)]
+#[derive(Clone, Copy)]
 pub enum Length {
     Fits(usize),
     TooLong,
 }
 
 // Where a text stands while steps run on it, and how long it is there.
-#[derive(Drop)]
+#[derive(Clone, Copy)]
 pub enum Ran {
     // In the text that was given.
     Given,

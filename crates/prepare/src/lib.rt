@@ -1,5 +1,7 @@
 // What is derived of a model once: the byte-adjacency rows, and the index. Defined in specs/Prepare.antt, its words in specs/Layout.antt.
 
+#![tactic(auto)]
+
 mod derive;
 mod fill;
 pub mod numbers;

@@ -8,6 +8,9 @@
 //     tools/replay_sample.py sample.jsonl crates/replay/stdin
 //
 // and tools/replay_sample.py says how its bytes are laid out.
+
+#![tactic(auto)]
+
 mod calls;
 mod cases;
 mod columns;

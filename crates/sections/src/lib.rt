@@ -1,13 +1,15 @@
 // Added tokens in a text, and the sections between them. Defined in specs/Matches.antt and specs/Sections.antt, for the second list in
 // specs/SecondList.antt; the bytes that contents begin with in specs/Beginnings.antt.
 
+#![tactic(auto)]
+
 pub mod first;
 pub mod seek;
 pub mod strips;
 pub mod walk;
 
 // What a search for tokens gives.
-#[derive(Drop)]
+#[derive(Clone, Copy)]
 pub enum Sought {
     // The place where a token stands, and its row.
     Found { place: usize, row: usize },
@@ -15,7 +17,7 @@ pub enum Sought {
 }
 
 // The next match that is not swallowed.
-#[derive(Drop)]
+#[derive(Clone, Copy)]
 pub enum Taken {
     // Where it stands, its row, where it ends, and how many matches may follow.
     Here {
@@ -28,7 +30,7 @@ pub enum Taken {
 }
 
 // Where a walk through the tokens of a text and what stands between them has come to.
-#[derive(Drop)]
+#[derive(Clone, Copy)]
 pub enum Cursor {
     // There are no tokens: the text is one section.
     Whole,
@@ -49,7 +51,7 @@ pub enum Cursor {
 }
 
 // What comes next in such a walk, and the cursor behind it.
-#[derive(Drop)]
+#[derive(Clone, Copy)]
 pub enum Next {
     // The text's part from `start` up to `stop`.
     Plain {

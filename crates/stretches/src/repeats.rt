@@ -17,7 +17,7 @@ use units::WordSplit;
 use units::cut::next_unit;
 
 // A unit that was encoded: its bytes in the section, where its ids stand in the buffer, how many it started as and how many are left.
-#[derive(Drop)]
+#[derive(Clone, Copy)]
 pub struct Seen {
     pub start: u32,
     pub end: u32,

@@ -10,7 +10,7 @@ use merge::ranked::bpe_merge_symbols_ranked;
 use merge::start::init_symbols;
 
 // How many ids a unit starts as, as far as the buffer goes, and how many are left of them.
-#[derive(Drop)]
+#[derive(Clone, Copy)]
 pub struct Encoded {
     pub starts: usize,
     pub count: usize,

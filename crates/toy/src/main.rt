@@ -1,4 +1,7 @@
 // The toy models of rules 14.1 and 14.2, run. Writes a line for each call: what it was given, and what it answered.
+
+#![tactic(auto)]
+
 mod checks;
 mod decoding;
 mod encoding;

@@ -1,6 +1,8 @@
 // How a model's sections divide into units that are merged one by one. Defined in specs/Kinds.antt, the kind of split and the raw path, and
 // specs/Units.antt, where units start; what is derived once is in specs/Derived.antt and specs/Adjacency.antt.
 
+#![tactic(auto)]
+
 pub mod adjacency;
 pub mod crossings;
 pub mod cut;
@@ -8,7 +10,7 @@ pub mod raw;
 pub mod spans;
 
 // The kind of split.
-#[derive(Drop)]
+#[derive(Clone, Copy)]
 pub enum WordSplit {
     // A unit starts at a mark that follows no mark, unless a crossing piece spans it.
     SpaceRuns,
@@ -19,14 +21,14 @@ pub enum WordSplit {
 }
 
 // A kind of split, and how many crossings were noted for it.
-#[derive(Drop)]
+#[derive(Clone, Copy)]
 pub struct Split {
     pub kind: WordSplit,
     pub count: usize,
 }
 
 // How a piece crosses from one unit to the next.
-#[derive(Drop)]
+#[derive(Clone, Copy)]
 pub(crate) enum Crossed {
     // Not at all.
     Nowhere,
@@ -37,7 +39,7 @@ pub(crate) enum Crossed {
 }
 
 // How the raw path puts a virtual mark in front of a section.
-#[derive(Drop)]
+#[derive(Clone, Copy)]
 pub enum RawPrepend {
     Never,
     Unguarded,
@@ -45,7 +47,7 @@ pub enum RawPrepend {
     GuardedFirst,
 }
 
-#[derive(Drop)]
+#[derive(Clone, Copy)]
 pub enum RawPath {
     Absent,
     Present(RawPrepend),

@@ -1,5 +1,8 @@
 // UTF-8 by RFC 3629, and Unicode's White_Space. Defined in specs/Chars.antt and specs/WhiteSpace.antt; specs/Lists.antt has the words on
 // lists that all crates use.
+
+#![tactic(auto)]
+
 pub mod bytes;
 pub mod chars;
 pub mod edges;

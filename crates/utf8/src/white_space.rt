@@ -7,7 +7,7 @@ ghost use Rattle.utf8.specs.inner.Ends.{white_width, white_end};
 use super::chars::{char_width, last_width, number_of};
 
 // Code points from low to high.
-#[derive(Drop)]
+#[derive(Clone, Copy)]
 pub struct Range {
     pub low: u32,
     pub high: u32,

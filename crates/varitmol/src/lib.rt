@@ -1,5 +1,8 @@
 // The static library: the public calls as functions for C, each slice as a pointer and a length. include/varitmol.h declares them.
 // What the numbers of steps and metaspace stand for is in specs/Numbers.antt.
+
+#![tactic(auto)]
+
 ghost use Rattle.std.specs.Prelude.{◌≡◌, length};
 ghost use Rattle.model.specs.Answers.{Outcome, ScratchOutcome};
 ghost use Rattle.model.specs.Check.{check_number, check_outcome};
