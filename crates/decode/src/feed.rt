@@ -34,7 +34,7 @@ fn is_broken(s: Decoder, b: u8) -> bool
 
 fn is_open(s: Decoder, b: u8) -> bool
     requires sound { Sound s }
-    requires b_value { is_broken (held_by s) b ≡ false }
+    requires unbroken { is_broken (held_by s) b ≡ false }
     ensures { result ≡ is_open (held_by s ++ (b ∷ [])) }
 {
     if s.count == 0 {
@@ -46,7 +46,7 @@ fn is_open(s: Decoder, b: u8) -> bool
 // The byte held behind those that are.
 fn hold(s: Decoder, b: u8) -> Decoder
     requires sound { Sound s }
-    requires b_value { is_open (held_by s ++ (b ∷ [])) ≡ true }
+    requires open_after { is_open (held_by s ++ (b ∷ [])) ≡ true }
     ensures { result ≡ holding (held_by s ++ (b ∷ [])) s.begun }
 {
     if s.count == 0 {
@@ -79,7 +79,7 @@ fn hold(s: Decoder, b: u8) -> Decoder
 // A byte that breaks nothing off.
 fn take_in(s: Decoder, b: u8, out: &mut [u8], at: usize) -> Progress
     requires sound { Sound s }
-    requires b_value { is_broken (held_by s) b ≡ false }
+    requires unbroken { is_broken (held_by s) b ≡ false }
     requires at_bound { at + 4 ≤ largest }
     ensures { ◌≡◌ {A = Fed} (record { progress = result; out = out.new }) (fed s (b ∷ []) at out.old) }
 {

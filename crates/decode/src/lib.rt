@@ -53,7 +53,7 @@ fn decode_ids(
     ids: &[u32],
     out: &mut [u8],
 ) -> Answer
-    requires piece_offsets_value { bad_piece (strings piece_bytes.now piece_offsets.now) ≡ false }
+    requires pieces_fine { bad_piece (strings piece_bytes.now piece_offsets.now) ≡ false }
     requires ids_len_bound { length (shown_text (not begun) (chars (joined_bytes (strings piece_bytes.now piece_offsets.now) ids.now))) + 13 ≤ largest }
     ensures { ◌≡◌ {A = Outcome} (record { answer = result; out = out.new }) (ids_outcome (strings piece_bytes.now piece_offsets.now) (not begun) ids.now out.old) }
 {

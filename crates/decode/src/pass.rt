@@ -45,8 +45,8 @@ fn is_plain_mark(s: Decoder, bytes: &[u8], i: usize) -> bool
 // A mark that can be put out as it is.
 fn put_mark(s: Decoder, out: &mut [u8], at: usize) -> Progress
     requires sound { Sound s }
-    requires s_value { is_idle s ≡ true }
-    requires at_lt_largest { at < largest }
+    requires idle { is_idle s ≡ true }
+    requires at_bound { at < largest }
     ensures { ◌≡◌ {A = Fed} (record { progress = result; out = out.new }) (fed s mark at out.old) }
 {
     let end = put_byte(0x20, out, at);
@@ -59,8 +59,8 @@ fn put_mark(s: Decoder, out: &mut [u8], at: usize) -> Progress
 // A character of one byte that can be put out as it is.
 fn put_plain(s: Decoder, b: u8, out: &mut [u8], at: usize) -> Progress
     requires sound { Sound s }
-    requires b_value { (is_idle s && ltb b 0x80) ≡ true }
-    requires at_lt_largest { at < largest }
+    requires plain { (is_idle s && ltb b 0x80) ≡ true }
+    requires at_bound { at < largest }
     ensures { ◌≡◌ {A = Fed} (record { progress = result; out = out.new }) (fed s (b ∷ []) at out.old) }
 {
     let end = put_byte(b, out, at);

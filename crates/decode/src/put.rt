@@ -62,7 +62,7 @@ fn put_held(s: Decoder, b: u8, out: &mut [u8], at: usize) -> usize
 
 // A byte that stands for itself: a character of one byte, or a stray one.
 fn put_alone(begun: bool, b: u8, out: &mut [u8], at: usize) -> usize
-    requires b_value { is_open (b ∷ []) ≡ false }
+    requires closed_after { is_open (b ∷ []) ≡ false }
     requires at_bound { at + 4 ≤ largest }
     ensures { ◌≡◌ {A = Put} (record { at = result; out = out.new }) (put (shown_first (not begun) (b ∷ [])) at out.old) }
 {
@@ -97,8 +97,8 @@ fn is_mark(s: Decoder, b: u8) -> bool
 // The character that a byte makes of those held, as it is shown.
 pub fn put_settled(s: Decoder, b: u8, out: &mut [u8], at: usize) -> usize
     requires sound { Sound s }
-    requires b_value { is_broken (held_by s) b ≡ false }
-    requires b_value_2 { is_open (held_by s ++ (b ∷ [])) ≡ false }
+    requires unbroken { is_broken (held_by s) b ≡ false }
+    requires closed_after { is_open (held_by s ++ (b ∷ [])) ≡ false }
     requires at_bound { at + 4 ≤ largest }
     ensures { ◌≡◌ {A = Put} (record { at = result; out = out.new }) (put (shown_first (not s.begun) (held_by s ++ (b ∷ []))) at out.old) }
 {

@@ -44,7 +44,7 @@ pub fn text_fits(
     begun: bool,
     room: usize,
 ) -> bool
-    requires piece_offsets_value { bad_piece (strings piece_bytes.now piece_offsets.now) ≡ false }
+    requires pieces_fine { bad_piece (strings piece_bytes.now piece_offsets.now) ≡ false }
     requires ids_len_bound { length (shown_text (not begun) (chars (joined_bytes (strings piece_bytes.now piece_offsets.now) ids.now))) + 13 ≤ largest }
     ensures { result ≡ leb (length (shown_text (not begun) (chars (joined_bytes (strings piece_bytes.now piece_offsets.now) ids.now)))) room }
 {

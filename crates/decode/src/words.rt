@@ -180,8 +180,8 @@ pub fn all_or_none(at: usize, room: usize) -> bool
 
 // The bytes behind the piece are put out with it.
 pub fn put_quick(bytes: &[u8], start: usize, len: usize, out: &mut [u8], at: usize) -> usize
-    requires len_value { quick_at bytes.now start len ≡ true }
-    requires out_value { all_or_none at (length out.old) ≡ true }
+    requires quick { quick_at bytes.now start len ≡ true }
+    requires room_for_all { all_or_none at (length out.old) ≡ true }
     requires at_bound { at + 13 ≤ largest }
     ensures { ◌≡◌ {A = Put} (record { at = result; out = out.new }) (record { at = at + length (head_spaced (take len (drop start bytes.now))); out = sets out.old at (eight_at bytes.now start len) }) }
 {

@@ -47,8 +47,8 @@ pub(crate) fn count_normal_section(
     a: &mut [u8],
     b: &mut [u8],
 ) -> Counted
-    requires second_begins_value { second_begins.now ≡ beginnings (contents (token_list second_bytes.now second_offsets.now second_ids.now second_lstrip.now second_rstrip.now)) (length second_begins.now) }
-    requires second_rstrip_value { bad_token (contents (token_list second_bytes.now second_offsets.now second_ids.now second_lstrip.now second_rstrip.now)) ≡ false }
+    requires second_begins_noted { second_begins.now ≡ beginnings (contents (token_list second_bytes.now second_offsets.now second_ids.now second_lstrip.now second_rstrip.now)) (length second_begins.now) }
+    requires second_tokens_fine { bad_token (contents (token_list second_bytes.now second_offsets.now second_ids.now second_lstrip.now second_rstrip.now)) ≡ false }
     ensures { result ≡ counted (outgrows (outputs_in (record { second = token_list second_bytes.now second_offsets.now second_ids.now second_lstrip.now second_rstrip.now; step_bytes = step_bytes.now; steps = take step_count steps; metaspace = metaspace }) opening section.now) (min (length a.old) (length b.old))) (parts_symbols (own_in index.now piece_bytes.now piece_offsets.now lookup.now) fallback.now (stretches_in (record { second = token_list second_bytes.now second_offsets.now second_ids.now second_lstrip.now second_rstrip.now; step_bytes = step_bytes.now; steps = take step_count steps; metaspace = metaspace }) opening section.now) cells) }
 {
     let room = lesser(a.len(), b.len());
@@ -142,9 +142,9 @@ pub(crate) fn encode_normal_section(
     b: &mut [u8],
     out: &mut [u32],
 ) -> usize
-    requires second_begins_value { second_begins.now ≡ beginnings (contents (token_list second_bytes.now second_offsets.now second_ids.now second_lstrip.now second_rstrip.now)) (length second_begins.now) }
-    requires second_rstrip_value { bad_token (contents (token_list second_bytes.now second_offsets.now second_ids.now second_lstrip.now second_rstrip.now)) ≡ false }
-    requires b_value { outgrows (outputs_in (record { second = token_list second_bytes.now second_offsets.now second_ids.now second_lstrip.now second_rstrip.now; step_bytes = step_bytes.now; steps = take step_count steps; metaspace = metaspace }) opening section.now) (min (length a.old) (length b.old)) ≡ false }
+    requires second_begins_noted { second_begins.now ≡ beginnings (contents (token_list second_bytes.now second_offsets.now second_ids.now second_lstrip.now second_rstrip.now)) (length second_begins.now) }
+    requires second_tokens_fine { bad_token (contents (token_list second_bytes.now second_offsets.now second_ids.now second_lstrip.now second_rstrip.now)) ≡ false }
+    requires outputs_fit { outgrows (outputs_in (record { second = token_list second_bytes.now second_offsets.now second_ids.now second_lstrip.now second_rstrip.now; step_bytes = step_bytes.now; steps = take step_count steps; metaspace = metaspace }) opening section.now) (min (length a.old) (length b.old)) ≡ false }
     ensures { ◌≡◌ {A = Merged} (record { count = result; ids = out.new }) (parts_writer (record { adjacency = adjacency.entry.now; index = index.now; piece_bytes = piece_bytes.now; piece_offsets = piece_offsets.now; lookup = lookup.now; fallback = fallback.now; left = left.now; right = right.now; res = res.now; rank = rank.now }) (stretches_in (record { second = token_list second_bytes.now second_offsets.now second_ids.now second_lstrip.now second_rstrip.now; step_bytes = step_bytes.now; steps = take step_count steps; metaspace = metaspace }) opening section.now) out.old) }
 {
     let room = lesser(a.len(), b.len());
@@ -253,10 +253,10 @@ pub(crate) fn count_normal(
     a: &mut [u8],
     b: &mut [u8],
 ) -> Counted
-    requires first_begins_value { first_begins.now ≡ beginnings (contents (token_list first_bytes.now first_offsets.now first_ids.now first_lstrip.now first_rstrip.now)) (length first_begins.now) }
-    requires first_rstrip_value { bad_token (contents (token_list first_bytes.now first_offsets.now first_ids.now first_lstrip.now first_rstrip.now)) ≡ false }
-    requires second_begins_value { second_begins.now ≡ beginnings (contents (token_list second_bytes.now second_offsets.now second_ids.now second_lstrip.now second_rstrip.now)) (length second_begins.now) }
-    requires second_rstrip_value { bad_token (contents (token_list second_bytes.now second_offsets.now second_ids.now second_lstrip.now second_rstrip.now)) ≡ false }
+    requires first_begins_noted { first_begins.now ≡ beginnings (contents (token_list first_bytes.now first_offsets.now first_ids.now first_lstrip.now first_rstrip.now)) (length first_begins.now) }
+    requires first_tokens_fine { bad_token (contents (token_list first_bytes.now first_offsets.now first_ids.now first_lstrip.now first_rstrip.now)) ≡ false }
+    requires second_begins_noted { second_begins.now ≡ beginnings (contents (token_list second_bytes.now second_offsets.now second_ids.now second_lstrip.now second_rstrip.now)) (length second_begins.now) }
+    requires second_tokens_fine { bad_token (contents (token_list second_bytes.now second_offsets.now second_ids.now second_lstrip.now second_rstrip.now)) ≡ false }
     ensures { result ≡ counted (outgrows (join_map (item_outputs (section_outputs (record { second = token_list second_bytes.now second_offsets.now second_ids.now second_lstrip.now second_rstrip.now; step_bytes = step_bytes.now; steps = take step_count steps; metaspace = metaspace }) text.now)) (sections (token_list first_bytes.now first_offsets.now first_ids.now first_lstrip.now first_rstrip.now) text.now)) (min (length a.old) (length b.old))) (parts_symbols (own_in index.now piece_bytes.now piece_offsets.now lookup.now) fallback.now (taken_apart (section_stretches (record { second = token_list second_bytes.now second_offsets.now second_ids.now second_lstrip.now second_rstrip.now; step_bytes = step_bytes.now; steps = take step_count steps; metaspace = metaspace }) text.now) (sections (token_list first_bytes.now first_offsets.now first_ids.now first_lstrip.now first_rstrip.now) text.now)) cells) }
 {
     let mut cursor = sections_start(first_offsets, text);
@@ -363,11 +363,11 @@ pub(crate) fn write_normal(
     b: &mut [u8],
     out: &mut [u32],
 ) -> usize
-    requires first_begins_value { first_begins.now ≡ beginnings (contents (token_list first_bytes.now first_offsets.now first_ids.now first_lstrip.now first_rstrip.now)) (length first_begins.now) }
-    requires first_rstrip_value { bad_token (contents (token_list first_bytes.now first_offsets.now first_ids.now first_lstrip.now first_rstrip.now)) ≡ false }
-    requires second_begins_value { second_begins.now ≡ beginnings (contents (token_list second_bytes.now second_offsets.now second_ids.now second_lstrip.now second_rstrip.now)) (length second_begins.now) }
-    requires second_rstrip_value { bad_token (contents (token_list second_bytes.now second_offsets.now second_ids.now second_lstrip.now second_rstrip.now)) ≡ false }
-    requires b_value { outgrows (join_map (item_outputs (section_outputs (record { second = token_list second_bytes.now second_offsets.now second_ids.now second_lstrip.now second_rstrip.now; step_bytes = step_bytes.now; steps = take step_count steps; metaspace = metaspace }) text.now)) (sections (token_list first_bytes.now first_offsets.now first_ids.now first_lstrip.now first_rstrip.now) text.now)) (min (length a.old) (length b.old)) ≡ false }
+    requires first_begins_noted { first_begins.now ≡ beginnings (contents (token_list first_bytes.now first_offsets.now first_ids.now first_lstrip.now first_rstrip.now)) (length first_begins.now) }
+    requires first_tokens_fine { bad_token (contents (token_list first_bytes.now first_offsets.now first_ids.now first_lstrip.now first_rstrip.now)) ≡ false }
+    requires second_begins_noted { second_begins.now ≡ beginnings (contents (token_list second_bytes.now second_offsets.now second_ids.now second_lstrip.now second_rstrip.now)) (length second_begins.now) }
+    requires second_tokens_fine { bad_token (contents (token_list second_bytes.now second_offsets.now second_ids.now second_lstrip.now second_rstrip.now)) ≡ false }
+    requires outputs_fit { outgrows (join_map (item_outputs (section_outputs (record { second = token_list second_bytes.now second_offsets.now second_ids.now second_lstrip.now second_rstrip.now; step_bytes = step_bytes.now; steps = take step_count steps; metaspace = metaspace }) text.now)) (sections (token_list first_bytes.now first_offsets.now first_ids.now first_lstrip.now first_rstrip.now) text.now)) (min (length a.old) (length b.old)) ≡ false }
     ensures { ◌≡◌ {A = Merged} (record { count = result; ids = out.new }) (parts_writer (record { adjacency = adjacency.entry.now; index = index.now; piece_bytes = piece_bytes.now; piece_offsets = piece_offsets.now; lookup = lookup.now; fallback = fallback.now; left = left.now; right = right.now; res = res.now; rank = rank.now }) (taken_apart (section_stretches (record { second = token_list second_bytes.now second_offsets.now second_ids.now second_lstrip.now second_rstrip.now; step_bytes = step_bytes.now; steps = take step_count steps; metaspace = metaspace }) text.now) (sections (token_list first_bytes.now first_offsets.now first_ids.now first_lstrip.now first_rstrip.now) text.now)) out.old) }
 {
     let mut cursor = sections_start(first_offsets, text);
@@ -465,10 +465,10 @@ pub(crate) fn encode_normal(
     b: &mut [u8],
     out: &mut [u32],
 ) -> Answer
-    requires first_begins_value { first_begins.now ≡ beginnings (contents (token_list first_bytes.now first_offsets.now first_ids.now first_lstrip.now first_rstrip.now)) (length first_begins.now) }
-    requires first_rstrip_value { bad_token (contents (token_list first_bytes.now first_offsets.now first_ids.now first_lstrip.now first_rstrip.now)) ≡ false }
-    requires second_begins_value { second_begins.now ≡ beginnings (contents (token_list second_bytes.now second_offsets.now second_ids.now second_lstrip.now second_rstrip.now)) (length second_begins.now) }
-    requires second_rstrip_value { bad_token (contents (token_list second_bytes.now second_offsets.now second_ids.now second_lstrip.now second_rstrip.now)) ≡ false }
+    requires first_begins_noted { first_begins.now ≡ beginnings (contents (token_list first_bytes.now first_offsets.now first_ids.now first_lstrip.now first_rstrip.now)) (length first_begins.now) }
+    requires first_tokens_fine { bad_token (contents (token_list first_bytes.now first_offsets.now first_ids.now first_lstrip.now first_rstrip.now)) ≡ false }
+    requires second_begins_noted { second_begins.now ≡ beginnings (contents (token_list second_bytes.now second_offsets.now second_ids.now second_lstrip.now second_rstrip.now)) (length second_begins.now) }
+    requires second_tokens_fine { bad_token (contents (token_list second_bytes.now second_offsets.now second_ids.now second_lstrip.now second_rstrip.now)) ≡ false }
     ensures { ◌≡◌ {A = Outcome} (record { answer = result; out = out.new }) (normal_outcome (record { adjacency = adjacency.entry.now; index = index.now; piece_bytes = piece_bytes.now; piece_offsets = piece_offsets.now; lookup = lookup.now; fallback = fallback.now; left = left.now; right = right.now; res = res.now; rank = rank.now }) (record { second = token_list second_bytes.now second_offsets.now second_ids.now second_lstrip.now second_rstrip.now; step_bytes = step_bytes.now; steps = take step_count steps; metaspace = metaspace }) (token_list first_bytes.now first_offsets.now first_ids.now first_lstrip.now first_rstrip.now) text.now (min (length a.old) (length b.old)) out.old) }
 {
     match count_normal(

@@ -166,8 +166,8 @@ pub(crate) fn count_parts(
     cells: usize,
     scratch: &mut [u8],
 ) -> Counted
-    requires begins_value { begins.now ≡ beginnings (contents (token_list bytes.now offsets.now ids.now lstrip.now rstrip.now)) (length begins.now) }
-    requires rstrip_value { bad_token (contents (token_list bytes.now offsets.now ids.now lstrip.now rstrip.now)) ≡ false }
+    requires begins_noted { begins.now ≡ beginnings (contents (token_list bytes.now offsets.now ids.now lstrip.now rstrip.now)) (length begins.now) }
+    requires tokens_fine { bad_token (contents (token_list bytes.now offsets.now ids.now lstrip.now rstrip.now)) ≡ false }
     requires room_in_bounds { room ≤ length scratch.old }
     ensures { result ≡ counted (outgrows (join_map (item_outputs (part_outputs metaspace)) (normal_parts (token_list bytes.now offsets.now ids.now lstrip.now rstrip.now) opening text.now)) room) (parts_symbols (own_in index.now piece_bytes.now piece_offsets.now lookup.now) fallback.now (taken_apart (part_stretch metaspace) (normal_parts (token_list bytes.now offsets.now ids.now lstrip.now rstrip.now) opening text.now)) cells) }
 {
@@ -250,10 +250,10 @@ pub(crate) fn encode_parts(
     scratch: &mut [u8],
     out: &mut [u32],
 ) -> usize
-    requires begins_value { begins.now ≡ beginnings (contents (token_list bytes.now offsets.now ids.now lstrip.now rstrip.now)) (length begins.now) }
-    requires rstrip_value { bad_token (contents (token_list bytes.now offsets.now ids.now lstrip.now rstrip.now)) ≡ false }
+    requires begins_noted { begins.now ≡ beginnings (contents (token_list bytes.now offsets.now ids.now lstrip.now rstrip.now)) (length begins.now) }
+    requires tokens_fine { bad_token (contents (token_list bytes.now offsets.now ids.now lstrip.now rstrip.now)) ≡ false }
     requires room_in_bounds { room ≤ length scratch.old }
-    requires room_value { outgrows (join_map (item_outputs (part_outputs metaspace)) (normal_parts (token_list bytes.now offsets.now ids.now lstrip.now rstrip.now) opening text.now)) room ≡ false }
+    requires outputs_fit { outgrows (join_map (item_outputs (part_outputs metaspace)) (normal_parts (token_list bytes.now offsets.now ids.now lstrip.now rstrip.now) opening text.now)) room ≡ false }
     ensures { ◌≡◌ {A = Merged} (record { count = result; ids = out.new }) (parts_writer (record { adjacency = adjacency.entry.now; index = index.now; piece_bytes = piece_bytes.now; piece_offsets = piece_offsets.now; lookup = lookup.now; fallback = fallback.now; left = left.now; right = right.now; res = res.now; rank = rank.now }) (taken_apart (part_stretch metaspace) (normal_parts (token_list bytes.now offsets.now ids.now lstrip.now rstrip.now) opening text.now)) out.old) }
 {
     let mut cursor = parts_start(text, opening);

@@ -39,8 +39,8 @@ pub fn count_raw(
     text: &[u8],
     room: usize,
 ) -> Symbols
-    requires begins_value { begins.now ≡ beginnings (contents (token_list bytes.now offsets.now ids.now lstrip.now rstrip.now)) (length begins.now) }
-    requires rstrip_value { bad_token (contents (token_list bytes.now offsets.now ids.now lstrip.now rstrip.now)) ≡ false }
+    requires begins_noted { begins.now ≡ beginnings (contents (token_list bytes.now offsets.now ids.now lstrip.now rstrip.now)) (length begins.now) }
+    requires tokens_fine { bad_token (contents (token_list bytes.now offsets.now ids.now lstrip.now rstrip.now)) ≡ false }
     ensures { result ≡ parts_symbols (own_in index.now piece_bytes.now piece_offsets.now lookup.now) fallback.now (taken_apart (raw_stretch prepend continuation text.now) (sections (token_list bytes.now offsets.now ids.now lstrip.now rstrip.now) text.now)) room }
 {
     let mut cursor = sections_start(offsets, text);
@@ -114,8 +114,8 @@ pub fn write_raw(
     text: &[u8],
     out: &mut [u32],
 ) -> usize
-    requires begins_value { begins.now ≡ beginnings (contents (token_list bytes.now offsets.now ids.now lstrip.now rstrip.now)) (length begins.now) }
-    requires rstrip_value { bad_token (contents (token_list bytes.now offsets.now ids.now lstrip.now rstrip.now)) ≡ false }
+    requires begins_noted { begins.now ≡ beginnings (contents (token_list bytes.now offsets.now ids.now lstrip.now rstrip.now)) (length begins.now) }
+    requires tokens_fine { bad_token (contents (token_list bytes.now offsets.now ids.now lstrip.now rstrip.now)) ≡ false }
     ensures { ◌≡◌ {A = Merged} (record { count = result; ids = out.new }) (parts_writer (record { adjacency = adjacency.entry.now; index = index.now; piece_bytes = piece_bytes.now; piece_offsets = piece_offsets.now; lookup = lookup.now; fallback = fallback.now; left = left.now; right = right.now; res = res.now; rank = rank.now }) (taken_apart (raw_stretch prepend continuation text.now) (sections (token_list bytes.now offsets.now ids.now lstrip.now rstrip.now) text.now)) out.old) }
 {
     let mut cursor = sections_start(offsets, text);
@@ -186,8 +186,8 @@ pub fn encode_raw(
     text: &[u8],
     out: &mut [u32],
 ) -> Answer
-    requires begins_value { begins.now ≡ beginnings (contents (token_list bytes.now offsets.now ids.now lstrip.now rstrip.now)) (length begins.now) }
-    requires rstrip_value { bad_token (contents (token_list bytes.now offsets.now ids.now lstrip.now rstrip.now)) ≡ false }
+    requires begins_noted { begins.now ≡ beginnings (contents (token_list bytes.now offsets.now ids.now lstrip.now rstrip.now)) (length begins.now) }
+    requires tokens_fine { bad_token (contents (token_list bytes.now offsets.now ids.now lstrip.now rstrip.now)) ≡ false }
     ensures { ◌≡◌ {A = Outcome} (record { answer = result; out = out.new }) (parts_outcome (record { adjacency = adjacency.entry.now; index = index.now; piece_bytes = piece_bytes.now; piece_offsets = piece_offsets.now; lookup = lookup.now; fallback = fallback.now; left = left.now; right = right.now; res = res.now; rank = rank.now }) (taken_apart (raw_stretch prepend continuation text.now) (sections (token_list bytes.now offsets.now ids.now lstrip.now rstrip.now) text.now)) out.old) }
 {
     let counted = count_raw(

@@ -42,7 +42,7 @@ fn strips_here(
     text: &[u8],
     s: usize,
 ) -> bool
-    requires begins_value { begins.now ≡ beginnings (contents (tokens_of bytes.now offsets.now lstrip.now [])) (length begins.now) }
+    requires begins_noted { begins.now ≡ beginnings (contents (tokens_of bytes.now offsets.now lstrip.now [])) (length begins.now) }
     requires fine { Fine (tokens_of bytes.now offsets.now lstrip.now []) text.now }
     ensures { result ≡ strips_at (tokens_of bytes.now offsets.now lstrip.now []) text.now s }
 {
@@ -65,7 +65,7 @@ pub fn strip_ahead(
     p: usize,
 ) -> Found
     requires p_in_bounds { p ≤ length text.now }
-    requires begins_value { begins.now ≡ beginnings (contents (tokens_of bytes.now offsets.now lstrip.now [])) (length begins.now) }
+    requires begins_noted { begins.now ≡ beginnings (contents (tokens_of bytes.now offsets.now lstrip.now [])) (length begins.now) }
     requires fine { Fine (tokens_of bytes.now offsets.now lstrip.now []) text.now }
     ensures { found_id result ≡ find (strips_at (tokens_of bytes.now offsets.now lstrip.now []) text.now) (places_ahead text.now p) }
 {

@@ -75,8 +75,8 @@ fn unlisted(
     long_listed: bool,
     id: usize,
 ) -> bool
-    requires lookup_value { lookup_ascends (strings piece_bytes.now piece_offsets.now) lookup.now ≡ true }
-    requires lookup_value_2 { (long_listed && long_missing (strings piece_bytes.now piece_offsets.now) lookup.now) ≡ false }
+    requires ascending { lookup_ascends (strings piece_bytes.now piece_offsets.now) lookup.now ≡ true }
+    requires long_listed { (long_listed && long_missing (strings piece_bytes.now piece_offsets.now) lookup.now) ≡ false }
     ensures { let pieces = strings piece_bytes.now piece_offsets.now in result ≡ (not (is_empty (piece pieces id)) && not (is_listed pieces lookup.now (piece pieces id))) }
 {
     if piece_empty(piece_bytes, piece_offsets, id) {
@@ -99,8 +99,8 @@ fn piece_missing(
     lookup: &[u32],
     long_listed: bool,
 ) -> bool
-    requires lookup_value { lookup_ascends (strings piece_bytes.now piece_offsets.now) lookup.now ≡ true }
-    requires lookup_value_2 { (long_listed && long_missing (strings piece_bytes.now piece_offsets.now) lookup.now) ≡ false }
+    requires ascending { lookup_ascends (strings piece_bytes.now piece_offsets.now) lookup.now ≡ true }
+    requires long_listed { (long_listed && long_missing (strings piece_bytes.now piece_offsets.now) lookup.now) ≡ false }
     ensures { result ≡ piece_missing (strings piece_bytes.now piece_offsets.now) lookup.now }
 {
     let count = string_count(piece_offsets);

@@ -45,7 +45,7 @@ pub fn derive_index(
     metaspace: Metaspace,
     out: &mut [u32],
 )
-    requires lookup_value { lookup_ascends (strings piece_bytes.now piece_offsets.now) lookup.now ≡ true }
+    requires ascending { lookup_ascends (strings piece_bytes.now piece_offsets.now) lookup.now ≡ true }
     requires lookup_len_bound { length lookup.now < 4294967296 }
     requires left_len_bound { length left.now ≤ 1048576 }
     requires index_length_in_bounds { index_length ≤ length out.old }

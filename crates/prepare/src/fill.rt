@@ -42,7 +42,7 @@ fn key_id(piece_bytes: &[u8], piece_offsets: &[u32], lookup: &[u32], key: &[u8])
 
 // The ids of the pieces that are one byte alone.
 fn fill_byte_ids(piece_bytes: &[u8], piece_offsets: &[u32], lookup: &[u32], words: &mut [u32])
-    requires lookup_value { lookup_ascends (strings piece_bytes.now piece_offsets.now) lookup.now ≡ true }
+    requires ascending { lookup_ascends (strings piece_bytes.now piece_offsets.now) lookup.now ≡ true }
     requires byte_ids_at_in_bounds { byte_ids_at + 256 ≤ length words.old }
     ensures { words.new ≡ take byte_ids_at words.old ++ byte_ids (strings piece_bytes.now piece_offsets.now) lookup.now ++ drop (byte_ids_at + 256) words.old }
 {
@@ -55,7 +55,7 @@ fn fill_byte_ids(piece_bytes: &[u8], piece_offsets: &[u32], lookup: &[u32], word
 
 // What is derived of the lookup list.
 fn fill_piece_index(piece_bytes: &[u8], piece_offsets: &[u32], lookup: &[u32], words: &mut [u32])
-    requires lookup_value { lookup_ascends (strings piece_bytes.now piece_offsets.now) lookup.now ≡ true }
+    requires ascending { lookup_ascends (strings piece_bytes.now piece_offsets.now) lookup.now ≡ true }
     requires lookup_len_bound { length lookup.now < 4294967296 }
     requires buckets_at_in_bounds { buckets_at ≤ length words.old }
     ensures { words.new ≡ take first_bytes_at words.old ++ piece_index (strings piece_bytes.now piece_offsets.now) lookup.now ++ drop buckets_at words.old }
@@ -131,7 +131,7 @@ fn fill_pieces(
     rank: &[u32],
     words: &mut [u32],
 )
-    requires lookup_value { lookup_ascends (strings piece_bytes.now piece_offsets.now) lookup.now ≡ true }
+    requires ascending { lookup_ascends (strings piece_bytes.now piece_offsets.now) lookup.now ≡ true }
     requires lookup_len_bound { length lookup.now < 4294967296 }
     requires left_len_bound { length left.now ≤ 1048576 }
     requires noted_len { length noted.now ≡ 64 }
@@ -199,7 +199,7 @@ pub fn fill_index(
     second_offsets: &[u32],
     words: &mut [u32],
 )
-    requires lookup_value { lookup_ascends (strings piece_bytes.now piece_offsets.now) lookup.now ≡ true }
+    requires ascending { lookup_ascends (strings piece_bytes.now piece_offsets.now) lookup.now ≡ true }
     requires lookup_len_bound { length lookup.now < 4294967296 }
     requires left_len_bound { length left.now ≤ 1048576 }
     requires noted_len { length noted.now ≡ 64 }

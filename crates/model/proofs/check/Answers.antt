@@ -1,0 +1,165 @@
+-- `model::check` meets its contract: the answer is that of the first test that applies.
+-- the way back to the start, and the model seen from behind each test
+-- the way back to the test of sizes
+use mathlib.Core.Path.{◌≡◌, refl, sym, ap₂, ◌∙◌}
+use mathlib.Core.Bool.{Bool, true, false, ◌||◌}
+use mathlib.Core.List.{List, ◌∷◌}
+use Prim.Native.Nat.{ℕ, ◌<◌}
+use native.Mathlib.Omega.{arith}
+use Rattle.model.specs.declared.Answer.{Answer}
+use Rattle.model.specs.Answers.{refused}
+use Rattle.model.specs.Model.{Model, model_of, token_list, contents, pieces_of, steps_of}
+use Rattle.model.specs.Check.{wrong_sizes, wrong_list_sizes, text_too_long, offsets_astray, bad_token, bad_step, model_tests, check_outcome}
+use Rattle.model.specs.inner.Tests.{span_fails}
+use Rattle.model.proofs.Accepted.{sizes_fine, DecidedBy, Undecided, nothing_decided, others_decide, first_decides, refuses, accepts}
+use Rattle.model.proofs.check.Goals as goal
+use Rattle.model.proofs.check.Goals.{Else-bad_fallback, Else-bad_lookup, Else-bad_piece, Else-bad_row, Else-bad_token, Else-bad_token-2, Else-offsets_astray, Else-steps_fail, Else-wrong_sizes, Start}
+
+-- the lent columns as a model
+abbrev lent : Start → Model
+lent s =
+    model_of s.args.piece_bytes.now s.args.piece_offsets.now s.args.lookup.now s.args.fallback.now s.args.left.now s.args.right.now s.args.res.now s.args.rank.now
+    (token_list s.args.first_bytes.now s.args.first_offsets.now s.args.first_ids.now s.args.first_lstrip.now s.args.first_rstrip.now)
+    (token_list s.args.second_bytes.now s.args.second_offsets.now s.args.second_ids.now s.args.second_lstrip.now s.args.second_rstrip.now)
+    s.args.step_bytes.now s.args.steps s.args.step_count s.args.metaspace
+
+abbrev after-1 : Else-wrong_sizes → Model
+after-1 e = lent (goal.at.Else-wrong_sizes e).Start
+
+abbrev after-2 : Else-offsets_astray → Model
+after-2 e = after-1 (goal.at.Else-offsets_astray e).Else-wrong_sizes
+
+abbrev after-3 : Else-bad_piece → Model
+after-3 e = after-2 (goal.at.Else-bad_piece e).Else-offsets_astray
+
+abbrev after-4 : Else-bad_lookup → Model
+after-4 e = after-3 (goal.at.Else-bad_lookup e).Else-bad_piece
+
+abbrev after-5 : Else-bad_fallback → Model
+after-5 e = after-4 (goal.at.Else-bad_fallback e).Else-bad_lookup
+
+abbrev after-6 : Else-bad_row → Model
+after-6 e = after-5 (goal.at.Else-bad_row e).Else-bad_fallback
+
+abbrev after-7 : Else-bad_token → Model
+after-7 e = after-6 (goal.at.Else-bad_token e).Else-bad_row
+
+abbrev after-8 : Else-bad_token-2 → Model
+after-8 e = after-7 (goal.at.Else-bad_token-2 e).Else-bad_token
+
+abbrev after-9 : Else-steps_fail → Model
+after-9 e = after-8 (goal.at.Else-steps_fail e).Else-bad_token-2
+
+-- what the tests of sizes and of the first token list said
+fine-sizes : (e : Else-wrong_sizes) → wrong_sizes (after-1 e) ≡ false
+unfolding wrong_sizes wrong_list_sizes steps_of
+fine-sizes e = sym e.wrong_sizes.ensures ∙ e.if-wrong_sizes.false
+
+fine-first : (e : Else-bad_token) → bad_token (contents (after-7 e).first) ≡ false
+unfolding contents
+fine-first e = sym e.bad_token.ensures ∙ e.if-bad_token.false
+
+-- which tests still decide behind each one that did not apply
+left-1 : (e : Else-wrong_sizes) → Undecided 1 (after-1 e)
+unfolding model_tests text_too_long
+left-1 e = others_decide (nothing_decided (after-1 e)) (rw (fine-sizes e))
+
+left-2 : (e : Else-offsets_astray) → Undecided 2 (after-2 e)
+unfolding model_tests offsets_astray steps_of
+left-2 e = others_decide (left-1 (goal.at.Else-offsets_astray e).Else-wrong_sizes) (sym e.offsets_astray.ensures ∙ e.if-offsets_astray.false)
+
+left-3 : (e : Else-bad_piece) → Undecided 3 (after-3 e)
+unfolding model_tests pieces_of
+left-3 e = others_decide (left-2 (goal.at.Else-bad_piece e).Else-offsets_astray) (sym e.bad_piece.ensures ∙ e.if-bad_piece.false)
+
+left-4 : (e : Else-bad_lookup) → Undecided 4 (after-4 e)
+unfolding model_tests pieces_of
+left-4 e = others_decide (left-3 (goal.at.Else-bad_lookup e).Else-bad_piece) (sym e.bad_lookup.ensures ∙ e.if-bad_lookup.false)
+
+left-5 : (e : Else-bad_fallback) → Undecided 5 (after-5 e)
+unfolding model_tests pieces_of
+left-5 e = others_decide (left-4 (goal.at.Else-bad_fallback e).Else-bad_lookup) (sym e.bad_fallback.ensures ∙ e.if-bad_fallback.false)
+
+left-6 : (e : Else-bad_row) → Undecided 6 (after-6 e)
+unfolding model_tests pieces_of
+left-6 e = others_decide (left-5 (goal.at.Else-bad_row e).Else-bad_fallback) (sym e.bad_row.ensures ∙ e.if-bad_row.false)
+
+left-7 : (e : Else-bad_token-2) → Undecided 7 (after-8 e)
+unfolding model_tests contents
+left-7 e =
+    others_decide (left-6 (goal.at.Else-bad_token-2 e).Else-bad_row)
+    (ap₂ ◌||◌ (fine-first (goal.at.Else-bad_token-2 e).Else-bad_token) (sym e.bad_token-2.ensures ∙ e.if-bad_token-2.false))
+
+left-8 : (e : Else-steps_fail) → Undecided 8 (after-9 e)
+unfolding model_tests bad_step span_fails steps_of
+left-8 e = others_decide (left-7 (goal.at.Else-steps_fail e).Else-bad_token-2) (sym e.steps_fail.ensures ∙ e.if-steps_fail.false)
+
+-- a refusal by the first of the tests that still decide
+refusal : (m : Model) (answer : Answer) {number : ℕ} {b : Bool} {tests : List (ℕ × Bool)} → 0 < number → answer ≡ refused number 0 → DecidedBy ((number, b) ∷ tests) m → b ≡ true → answer ≡ check_outcome m
+refusal m answer h e decided t = e ∙ sym (refuses m _ h (first_decides decided t))
+
+pub returns-then-wrong_sizes : goal.returns-then-wrong_sizes
+unfolding model_tests wrong_sizes wrong_list_sizes text_too_long steps_of
+returns-then-wrong_sizes c =
+    refusal (lent (goal.at.returns-then-wrong_sizes c).Start) _ (omega arith) c.refused.ensures (nothing_decided (lent (goal.at.returns-then-wrong_sizes c).Start))
+    (rw (sym c.wrong_sizes.ensures ∙ c.if-wrong_sizes.true))
+
+pub offsets_astray-requires : goal.offsets_astray-requires
+offsets_astray-requires c =
+    let sizes = sizes_fine (after-1 c) (fine-sizes c) in
+    (sizes.piece_row, sizes.first.row, sizes.second.row, sizes.steps)
+
+pub returns-then-offsets_astray : goal.returns-then-offsets_astray
+unfolding model_tests offsets_astray steps_of
+returns-then-offsets_astray c =
+    refusal (after-1 (goal.at.returns-then-offsets_astray c).Else-wrong_sizes) _ (omega arith) c.refused-then-offsets_astray.ensures (left-1 (goal.at.returns-then-offsets_astray c).Else-wrong_sizes)
+    (sym c.offsets_astray.ensures ∙ c.if-offsets_astray.true)
+
+pub returns-then-bad_piece : goal.returns-then-bad_piece
+unfolding model_tests pieces_of
+returns-then-bad_piece c =
+    refusal (after-2 (goal.at.returns-then-bad_piece c).Else-offsets_astray) _ (omega arith) c.refused-then-bad_piece.ensures (left-2 (goal.at.returns-then-bad_piece c).Else-offsets_astray)
+    (sym c.bad_piece.ensures ∙ c.if-bad_piece.true)
+
+pub returns-then-bad_lookup : goal.returns-then-bad_lookup
+unfolding model_tests pieces_of
+returns-then-bad_lookup c =
+    refusal (after-3 (goal.at.returns-then-bad_lookup c).Else-bad_piece) _ (omega arith) c.refused-then-bad_lookup.ensures (left-3 (goal.at.returns-then-bad_lookup c).Else-bad_piece)
+    (sym c.bad_lookup.ensures ∙ c.if-bad_lookup.true)
+
+pub returns-then-bad_fallback : goal.returns-then-bad_fallback
+unfolding model_tests pieces_of
+returns-then-bad_fallback c =
+    refusal (after-4 (goal.at.returns-then-bad_fallback c).Else-bad_lookup) _ (omega arith) c.refused-then-bad_fallback.ensures (left-4 (goal.at.returns-then-bad_fallback c).Else-bad_lookup)
+    (sym c.bad_fallback.ensures ∙ c.if-bad_fallback.true)
+
+pub returns-then-bad_row : goal.returns-then-bad_row
+unfolding model_tests pieces_of
+returns-then-bad_row c =
+    refusal (after-5 (goal.at.returns-then-bad_row c).Else-bad_fallback) _ (omega arith) c.refused-then-bad_row.ensures (left-5 (goal.at.returns-then-bad_row c).Else-bad_fallback)
+    (sym c.bad_row.ensures ∙ c.if-bad_row.true)
+
+pub returns-then-bad_token : goal.returns-then-bad_token
+unfolding model_tests contents
+returns-then-bad_token c =
+    refusal (after-6 (goal.at.returns-then-bad_token c).Else-bad_row) _ (omega arith) c.refused-then-bad_token.ensures (left-6 (goal.at.returns-then-bad_token c).Else-bad_row)
+    (ap₂ ◌||◌ (sym c.bad_token.ensures ∙ c.if-bad_token.true) refl)
+
+pub returns-then-bad_token-2 : goal.returns-then-bad_token-2
+unfolding model_tests contents
+returns-then-bad_token-2 c =
+    refusal (after-7 (goal.at.returns-then-bad_token-2 c).Else-bad_token) _ (omega arith) c.refused-then-bad_token-2.ensures (left-6 (goal.at.returns-then-bad_token-2 c).Else-bad_row)
+    (ap₂ ◌||◌ (fine-first (goal.at.returns-then-bad_token-2 c).Else-bad_token) (sym c.bad_token-2.ensures ∙ c.if-bad_token-2.true))
+
+pub steps_fail-requires : goal.steps_fail-requires
+steps_fail-requires c = (sizes_fine (after-1 (goal.at.steps_fail-requires c).Else-wrong_sizes) (fine-sizes (goal.at.steps_fail-requires c).Else-wrong_sizes)).steps
+
+pub returns-then-steps_fail : goal.returns-then-steps_fail
+unfolding model_tests bad_step span_fails steps_of
+returns-then-steps_fail c =
+    refusal (after-8 (goal.at.returns-then-steps_fail c).Else-bad_token-2) _ (omega arith) c.refused-then-steps_fail.ensures (left-7 (goal.at.returns-then-steps_fail c).Else-bad_token-2)
+    (sym c.steps_fail.ensures ∙ c.if-steps_fail.true)
+
+pub returns : goal.returns
+unfolding model_tests
+returns c = c.done.ensures ∙ sym (accepts (after-9 (goal.at.returns c).Else-steps_fail) (left-8 (goal.at.returns c).Else-steps_fail).number)

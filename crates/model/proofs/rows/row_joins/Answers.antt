@@ -1,0 +1,7 @@
+-- `model::rows::row_joins` meets its contract.
+use Rattle.model.specs.Model.{piece}
+use Rattle.model.proofs.rows.row_joins.Goals as goal
+
+pub returns : goal.returns
+unfolding piece
+returns c = cc
