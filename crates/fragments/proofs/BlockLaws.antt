@@ -59,7 +59,7 @@ module _ (t : TokenList) (text : List ℕ) (fine : Fine t text) where
       let ok : valid c ≡ true = not-not (valid c) (or_right (is_empty c) (not (valid c)) (fine-content row h)) in
       let whole : drop s text ≡ c ++ drop (length c) (drop s text) = starts_rest c (drop s text) e in
       let starts : Edge text s = ap (has_form (tail ∷ [])) whole ∙ more_behind c (drop (length c) (drop s text)) some ∙ valid-edge c ok in
-      let all_valid : valid (take s text ++ drop s text) ≡ true = ap valid (take-append-drop s text) ∙ fine.text-valid in
+      let all_valid : valid (take s text ++ drop s text) ≡ true = ap valid (take-append-drop s text) ∙ fine.text_valid in
       let rest : valid (drop s text) ≡ true = and_right (valid (take s text)) (valid (drop s text)) (sym (valid-cut (take s text) (drop s text) starts) ∙ all_valid) in
       let behind : valid (drop (length c) (drop s text)) ≡ true = sym (valid-append c (drop (length c) (drop s text)) ok) ∙ sym (ap valid whole) ∙ rest in
       record {

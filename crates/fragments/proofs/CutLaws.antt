@@ -104,5 +104,5 @@ module _ {o : Over} {from at clear p mark : ℕ} (s : Searching o from at clear 
             past = omega (arith, b.past);
             clear = λ q l m e. s.known.clear q (omega (arith, s.known.low, first.low h)) m e;
           };
-          same = to_mark ∙ first_skip (safe o) (length o.text) mark (end + 1) (omega (arith, b.low)) (λ q l m. safe_blocked o.kind o.noted o.unguarded o.tokens o.text q (b.all-blocked q l (omega arith)));
+          same = to_mark ∙ first_skip (safe o) (length o.text) mark (end + 1) (omega (arith, b.low)) (λ q l m. safe_blocked o.kind o.noted o.unguarded o.tokens o.text q (b.all_blocked q l (omega arith)));
         }

@@ -130,7 +130,7 @@ module _ (t : TokenList) (text : List ℕ) (begins : List ℕ) (sound : Sound be
   unfolding stands_at token_at
   none_stands h e row l =
       ap (starts_with (get_or (contents t) row [])) (drop-cons text s 0 h)
-      ∙ other_start (get_or (contents t) row []) (get_or text s 0) (drop (suc s) text) (not-empty-at row l) (any-false-at (begins_with (get_or text s 0)) (contents t) row [] (sound.none-begins (get_or text s 0) e) l)
+      ∙ other_start (get_or (contents t) row []) (get_or text s 0) (drop (suc s) text) (not-empty-at row l) (any-false-at (begins_with (get_or text s 0)) (contents t) row [] (sound.none_begins (get_or text s 0) e) l)
 
   pub none_ends : (unguarded strip : Bool) → s < length text → may_begin begins (get_or text s 0) ≡ false → end_at unguarded t text strip s ≡ 0
   unfolding end_at end_of

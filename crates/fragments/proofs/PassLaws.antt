@@ -25,7 +25,7 @@ module _ (o : Over) where
 
   known_start : Fine o.tokens o.text → KnownOver o 0 0 1
   unfolding reach
-  known_start fine = record { low = omega arith; edge = valid-edge o.text fine.text-valid; past = omega arith; clear = λ q l m e. absurd (omega arith) }
+  known_start fine = record { low = omega arith; edge = valid-edge o.text fine.text_valid; past = omega arith; clear = λ q l m e. absurd (omega arith) }
 
   -- Too close to the end: no cut follows.
   pub none_after : (last step ahead : ℕ) → n - last ≤ step → NextOver o (last + step) (record { place = n; ahead = ahead })

@@ -36,7 +36,7 @@ module _ (bytes offsets : List ℕ) (lstrip rstrip : List Bool) (text : List ℕ
   contents-left = refl
 
   pub fine-left : Fine (tokens_of bytes offsets lstrip rstrip) text → Fine (tokens_of bytes offsets lstrip []) text
-  fine-left f = record { text_valid = f.text-valid; contents-fine = ap bad_token contents-left ∙ f.contents-fine }
+  fine-left f = record { text_valid = f.text_valid; contents-fine = ap bad_token contents-left ∙ f.contents-fine }
 
 ahead_nothing : (t : TokenList) (text : List ℕ) (p : ℕ) → find (strips_at t text) (places_ahead text p) ≡ none → blocked_ahead t text p ≡ false
 unfolding blocked_ahead

@@ -243,4 +243,4 @@ match_first begins contents sound fine place (b ∷ text) = go (may_begin begins
     go : (t : Bool) → may_begin begins b ≡ t → match_by begins contents (suc place) text ≡ first_match contents (suc place) text
         → placed place (cond t (row_at contents (b ∷ text)) none) (match_by begins contents (suc place) text) ≡ match_or place (longest_at contents (b ∷ text)) (first_match contents (suc place) text)
     go true q e = same_match (longest_at contents (b ∷ text)) e
-    go false q e = rw (none-longest contents b text (no_empty contents fine) (sound.none-begins b q)) e
+    go false q e = rw (none-longest contents b text (no_empty contents fine) (sound.none_begins b q)) e

@@ -123,7 +123,7 @@ module _ (m : Model) (ok : Accepted m) where
         let mine = with_virtual_mark s.virtual (chars-from (g.unit ∷ g.us)) in
         let theirs = chars-from g.rest in
         let whole : stretch_units m s ≡ mine ++ theirs =
-        ap (λ (us : List (List ℕ)). with_virtual_mark s.virtual (chars-from us)) g.units-are
+        ap (λ (us : List (List ℕ)). with_virtual_mark s.virtual (chars-from us)) g.units_are
         ∙ ap {B = List (List (List ℕ))} (λ l. cond s.virtual (mark ∷ unit_chars s.raw g.unit) (unit_chars s.raw g.unit) ∷ l) (map-append (unit_chars s.raw) g.us g.rest) in
         let dropped = any (is_dropped (vocabulary_of m)) in
         let both : (dropped (join mine) || dropped (join theirs)) ≡ false =
@@ -131,7 +131,7 @@ module _ (m : Model) (ok : Accepted m) where
         ap (apart_ids m) whole
         ∙ apart-append m mine theirs
         ∙ ap₂ {C = List ℕ} ◌++◌
-        (row_alike s.raw s.virtual g.unit g.us g.part g.chars-are g.apart (or_left (dropped (join mine)) (dropped (join theirs)) both))
+        (row_alike s.raw s.virtual g.unit g.us g.part g.chars_are g.apart (or_left (dropped (join mine)) (dropped (join theirs)) both))
         (groups_alike s.raw g.after (or_right (dropped (join mine)) (dropped (join theirs)) both))
         ∙ ap (λ (ps : List (List ℕ)). join_map (unsplit_ids m) (mark_sections s.raw s.virtual ps)) (sym g.parts_are)
 

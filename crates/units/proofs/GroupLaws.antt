@@ -93,9 +93,9 @@ module _ (s : List ℕ) (pieces : List (List ℕ)) (raw : Bool) (test coarse : �
 
   close : {units parts : List (List ℕ)} (a : ℕ) → Open false a a units parts → Groups pieces raw units parts
   close a o =
-      subst₂ (Groups pieces raw) (sym o.units-are) (sym o.parts_are)
+      subst₂ (Groups pieces raw) (sym o.units_are) (sym o.parts_are)
       (group o.unit o.us o.rest o.part o.others
-      (ap (λ (cs : List (List ℕ)). cs ++ join_map chars (o.unit ∷ o.us)) (sym (ap chars (slice_empty a s) ∙ chars-nil)) ∙ o.chars-are)
+      (ap (λ (cs : List (List ℕ)). cs ++ join_map chars (o.unit ∷ o.us)) (sym (ap chars (slice_empty a s) ∙ chars-nil)) ∙ o.chars_are)
       o.apart o.after)
 
   -- the first part ends with the first unit
@@ -120,7 +120,7 @@ module _ (s : List ℕ) (pieces : List (List ℕ)) (raw : Bool) (test coarse : �
       → NoPieceOver pieces (prefix virtual ++ shown raw (take f s)) (shown raw (drop f s)) → join units ≡ drop f s → Open false g f units parts → Open virtual g a (slice a f s ∷ units) parts
   first_goes_on virtual g a f units parts h k l seam z none joined o =
       let mine = o.unit ∷ o.us in
-      let whole : join mine ++ join o.rest ≡ drop f s = sym (join-append mine o.rest) ∙ ap join (sym o.units-are) ∙ joined in
+      let whole : join mine ++ join o.rest ≡ drop f s = sym (join-append mine o.rest) ∙ ap join (sym o.units_are) ∙ joined in
       let spelt : shown raw (drop f s) ≡ join (map (shown raw) mine) ++ shown raw (join o.rest) =
       ap (shown raw) (sym whole) ∙ shown-append raw (join mine) (join o.rest) ∙ ap (λ (t : List ℕ). t ++ shown raw (join o.rest)) (sym (join_map-join (shown_byte raw) mine)) in
       record {
@@ -129,12 +129,12 @@ module _ (s : List ℕ) (pieces : List (List ℕ)) (raw : Bool) (test coarse : �
         rest = o.rest;
         part = o.part;
         others = o.others;
-        units_are = ap {B = List (List ℕ)} (λ us. slice a f s ∷ us) o.units-are;
+        units_are = ap {B = List (List ℕ)} (λ us. slice a f s ∷ us) o.units_are;
         parts_are = o.parts_are;
         chars_are =
             sym (append_assoc (chars (slice g a s)) (chars (slice a f s)) (join_map chars mine))
             ∙ ap (λ (cs : List (List ℕ)). cs ++ join_map chars mine) (chars_seam s g a f h k l seam)
-            ∙ o.chars-are;
+            ∙ o.chars_are;
         apart = (
           over_front pieces (prefix virtual ++ shown raw (slice a f s)) (join (map (shown raw) mine)) (shown raw (join o.rest))
               (subst (NoPieceOver pieces (prefix virtual ++ shown raw (slice a f s))) spelt (part-before s pieces raw virtual a f z none)),
@@ -173,9 +173,9 @@ module _ (s : List ℕ) (pieces : List (List ℕ)) (raw : Bool) (test coarse : �
         rest = o.rest;
         part = o.part;
         others = o.others;
-        units_are = o.units-are;
+        units_are = o.units_are;
         parts_are = o.parts_are;
-        chars_are = ap (λ (cs : List (List ℕ)). cs ++ join_map chars (o.unit ∷ o.us)) (sym (ap chars (slice_empty 0 s) ∙ chars-nil)) ∙ o.chars-are;
+        chars_are = ap (λ (cs : List (List ℕ)). cs ++ join_map chars (o.unit ∷ o.us)) (sym (ap chars (slice_empty 0 s) ∙ chars-nil)) ∙ o.chars_are;
         apart = o.apart;
         after = o.after;
       }

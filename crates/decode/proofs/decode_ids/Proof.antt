@@ -15,7 +15,7 @@ start f = f.before.before.before.before.before
 
 -- what is decoded
 abbrev pieces : tie.Start → List (List ℕ)
-pieces s = strings s.args.piece_bytes.now s.args.piece-offsets.now
+pieces s = strings s.args.piece_bytes.now s.args.piece_offsets.now
 
 -- where the bytes were put out, and the rest cleared
 abbrev put : tie.After-clear-bytes → tie.After-put-decoded
@@ -64,7 +64,7 @@ returns-2 c =
     let s = start f in
     ids-fit (pieces s) (not s.args.begun) s.args.ids.now s.args.out.now _ _ _ _ _ (sym f.text-fits.ensures ∙ not-false _ e.if1.left)
     p.put-decoded.ensures k.before.before.before.out.given k.clear-bytes.ensures
-    (n.count-skips.ensures ∙ skips-counted s.args.piece_bytes.now s.args.piece-offsets.now s.args.ids.now _ n.before.string-count.ensures)
+    (n.count-skips.ensures ∙ skips-counted s.args.piece_bytes.now s.args.piece_offsets.now s.args.ids.now _ n.before.string-count.ensures)
     c.done.ensures
 
 pub decode-ids-spec : {M : Type 1} → statement M

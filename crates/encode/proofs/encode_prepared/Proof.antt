@@ -18,15 +18,15 @@ abbrev lent : tie.Start → Lent
 lent s =
     record {
       model =
-          model_of s.args.piece_bytes.now s.args.piece-offsets.now s.args.lookup.now s.args.fallback.now s.args.left.now s.args.right.now s.args.res.now s.args.rank.now
+          model_of s.args.piece_bytes.now s.args.piece_offsets.now s.args.lookup.now s.args.fallback.now s.args.left.now s.args.right.now s.args.res.now s.args.rank.now
           (token_list s.args.first-bytes.now s.args.first-offsets.now s.args.first-ids.now s.args.first-lstrip.now s.args.first-rstrip.now)
           (token_list s.args.second-bytes.now s.args.second-offsets.now s.args.second-ids.now s.args.second-lstrip.now s.args.second-rstrip.now)
-          s.args.step-bytes.now s.args.steps s.args.step_count s.args.metaspace;
+          s.args.step_bytes.now s.args.steps s.args.step_count s.args.metaspace;
       text = s.args.text.now;
       continuation = s.args.continuation;
       out = s.args.out.now;
-      scratch_a = s.args.scratch-a.now;
-      scratch_b = s.args.scratch-b.now;
+      scratch_a = s.args.scratch_a.now;
+      scratch_b = s.args.scratch_b.now;
     }
 
 -- the way back to the start, and what is known of bytes there
@@ -36,7 +36,7 @@ start k = k.before.before.before.before.before.before.before.before.before.befor
 text-bytes : (k : tie.After-slice-known3) → Small (start k).args.text.now
 text-bytes k i = omega (arith, k.before.before.before.shared-slice-known22.given i)
 
-step-bytes : (k : tie.After-slice-known3) → Small (start k).args.step-bytes.now
+step-bytes : (k : tie.After-slice-known3) → Small (start k).args.step_bytes.now
 step-bytes k i = omega (arith, k.before.before.before.before.before.before.shared-slice-known19.given i)
 
 -- the ways back from where the text was found valid, and from where the path was read

@@ -16,10 +16,10 @@ abbrev lent : tie.Start → Lent
 lent s =
     record {
       model =
-          model_of s.args.piece_bytes.now s.args.piece-offsets.now s.args.lookup.now s.args.fallback.now s.args.left.now s.args.right.now s.args.res.now s.args.rank.now
+          model_of s.args.piece_bytes.now s.args.piece_offsets.now s.args.lookup.now s.args.fallback.now s.args.left.now s.args.right.now s.args.res.now s.args.rank.now
           (token_list s.args.first-bytes.now s.args.first-offsets.now s.args.first-ids.now s.args.first-lstrip.now s.args.first-rstrip.now)
           (token_list s.args.second-bytes.now s.args.second-offsets.now s.args.second-ids.now s.args.second-lstrip.now s.args.second-rstrip.now)
-          s.args.step-bytes.now s.args.steps s.args.step_count s.args.metaspace;
+          s.args.step_bytes.now s.args.steps s.args.step_count s.args.metaspace;
       text = s.args.text.now;
       target = s.args.target;
       out = s.args.out.now;

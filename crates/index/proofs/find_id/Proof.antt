@@ -62,12 +62,12 @@ start e = e.before.before.before.before.before.before.before.before
 
 -- what is sought, from where the lookup list was searched
 sought : (c : tie.After-find-piece-between) → (let st = start c.before.before.before in
-    id_from (strings st.args.piece_bytes.now st.args.piece-offsets.now) st.args.lookup.now st.args.first-bytes.now st.args.mark-id st.args.key.now ≡ entry_at 0 st.args.lookup.now c.find-piece-between.result)
+    id_from (strings st.args.piece_bytes.now st.args.piece_offsets.now) st.args.lookup.now st.args.first-bytes.now st.args.mark-id st.args.key.now ≡ entry_at 0 st.args.lookup.now c.find-piece-between.result)
 unfolding id_at
 sought c =
     let told = c.before.before.before in
     let st = start told in
-    id-searched (strings st.args.piece_bytes.now st.args.piece-offsets.now) st.args.lookup.now st.args.first-bytes.now st.args.mark-id st.args.key.now
+    id-searched (strings st.args.piece_bytes.now st.args.piece_offsets.now) st.args.lookup.now st.args.first-bytes.now st.args.mark-id st.args.key.now
     told.before.before.if1.false told.before.is-mark.ensures told.if2.false c.before.before.key-start.ensures.0 c.before.key-end.ensures c.find-piece-between.ensures
 
 returns-3 : tie.Need-returns-3

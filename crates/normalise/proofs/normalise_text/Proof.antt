@@ -57,7 +57,7 @@ returns c =
     let same-b : length c.before.before.clear2.new.0 ≡ length st.b.now = search rules in
     let ran = (presented c).run-if-present in
     let least = (measured c).lesser in
-    settled_by_lem st.step-bytes.now (take st.step_count st.steps) st.metaspace st.first st.text.now st.out.now st.a.now st.b.now least.result _ _ _ _ _ least.ensures (stepped c).run-steps.ensures ran.ensures (ended c).end.ensures
+    settled_by_lem st.step_bytes.now (take st.step_count st.steps) st.metaspace st.first st.text.now st.out.now st.a.now st.b.now least.result _ _ _ _ _ least.ensures (stepped c).run-steps.ensures ran.ensures (ended c).end.ensures
     (all-zeros _ (length ran.last.1.1.1.1.1.0) _ c.before.before.before.before.before.before.clear.ensures same-a)
     (all-zeros _ (length ran.last.1.1.1.1.1.1.0) _ c.before.before.clear2.ensures same-b)
 

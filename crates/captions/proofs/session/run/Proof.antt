@@ -16,7 +16,7 @@ lent s =
     model_of s.args.pieces.now s.args.offsets.now s.args.lookup.now s.args.fallback.now s.args.left.now s.args.right.now s.args.res.now s.args.rank.now
     (token_list s.args.first.now s.args.first-offsets.now s.args.first-ids.now s.args.first-lstrip.now s.args.first-rstrip.now)
     (token_list s.args.second.now s.args.second-offsets.now s.args.second-ids.now s.args.second-lstrip.now s.args.second-rstrip.now)
-    s.args.step-bytes.now s.args.steps s.args.step_count s.args.metaspace
+    s.args.step_bytes.now s.args.steps s.args.step_count s.args.metaspace
 
 -- the ways back: to the start, from where the model was found fine, and from the call to where it was prepared
 abbrev start : tie.After-remarks → tie.Start

@@ -35,7 +35,7 @@ abbrev read_at : tie.After-is-ready invariant-loop decreases-loop → tie.After-
 read_at r = r.before.before.before
 
 abbrev pieces : tie.At-loop invariant-loop decreases-loop → List (List ℕ)
-pieces a = strings (start a).args.piece_bytes.now (start a).args.piece-offsets.now
+pieces a = strings (start a).args.piece_bytes.now (start a).args.piece_offsets.now
 
 -- the next piece, and the bytes behind it
 abbrev here : tie.At-loop invariant-loop decreases-loop → List ℕ
@@ -64,8 +64,8 @@ placed r =
     let p = read_at r in
     let s = (start (at p)).args in
     ap₂ (λ (bytes : List ℕ) (n : ℕ). take (length bytes) (drop n s.piece_bytes.now)) (read p)
-    (r.before.wide2.ensures.0 ∙ r.before.before.number_at.ensures ∙ ap (λ (i : ℕ). get_or s.piece-offsets.now i 0) p.before.wide.ensures.0)
-    ∙ piece-at s.piece_bytes.now s.piece-offsets.now (get_or s.ids.now (at p).loop.i 0)
+    (r.before.wide2.ensures.0 ∙ r.before.before.number_at.ensures ∙ ap (λ (i : ℕ). get_or s.piece_offsets.now i 0) p.before.wide.ensures.0)
+    ∙ piece-at s.piece_bytes.now s.piece_offsets.now (get_or s.ids.now (at p).loop.i 0)
 
 -- what the test says
 abbrev quick : tie.After-is-ready invariant-loop decreases-loop → Bool

@@ -18,7 +18,7 @@ abbrev made : tie.After-feed-ids → tie.After-empty
 made f = f.before.before
 
 abbrev bytes : tie.Start → List ℕ
-bytes s = joined_bytes (strings s.args.piece_bytes.now s.args.piece-offsets.now) s.args.ids.now
+bytes s = joined_bytes (strings s.args.piece_bytes.now s.args.piece_offsets.now) s.args.ids.now
 
 empty-requires : tie.Need-empty-requires
 empty-requires c κs = search rules

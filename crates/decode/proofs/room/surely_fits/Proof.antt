@@ -27,7 +27,7 @@ abbrev at : tie.After-most-of invariant-loop decreases-loop → tie.At-loop inva
 at m = m.before.before.before.before.before
 
 abbrev pieces : tie.At-loop invariant-loop decreases-loop → List (List ℕ)
-pieces a = strings (start a).args.piece_bytes.now (start a).args.piece-offsets.now
+pieces a = strings (start a).args.piece_bytes.now (start a).args.piece_offsets.now
 
 -- the next piece, and what those behind it become at the most
 abbrev here : tie.At-loop invariant-loop decreases-loop → List ℕ

@@ -18,7 +18,7 @@ surely-fits-requires c κs = search rules
 returns : tie.Need-returns
 returns c =
     let s = start c.before in
-    sym (surely_enough (not s.args.begun) (strings s.args.piece_bytes.now s.args.piece-offsets.now) s.args.ids.now s.args.room s.pre.0 (sym c.before.surely-fits.ensures ∙ c.if1.true))
+    sym (surely_enough (not s.args.begun) (strings s.args.piece_bytes.now s.args.piece_offsets.now) s.args.ids.now s.args.room s.pre.0 (sym c.before.surely-fits.ensures ∙ c.if1.true))
 
 decoded-len-requires : tie.Need-decoded-len-requires
 decoded-len-requires c κs = (start c.before).requires.1

@@ -43,13 +43,13 @@ tokens_of s = token_list s.args.first-bytes.now s.args.first-offsets.now s.args.
 abbrev normal_of : tie.Start invariant-loop decreases-loop → Normal
 normal_of s = record {
   second = token_list s.args.second-bytes.now s.args.second-offsets.now s.args.second-ids.now s.args.second-lstrip.now s.args.second-rstrip.now;
-  step_bytes = s.args.step-bytes.now;
+  step_bytes = s.args.step_bytes.now;
   steps = take s.args.step_count s.args.steps;
   metaspace = s.args.metaspace;
 }
 
 abbrev own_of : tie.Start invariant-loop decreases-loop → List ℕ → Option ℕ
-own_of s = own_in s.args.index.now s.args.piece_bytes.now s.args.piece-offsets.now s.args.lookup.now
+own_of s = own_in s.args.index.now s.args.piece_bytes.now s.args.piece_offsets.now s.args.lookup.now
 
 abbrev room_of : tie.Start invariant-loop decreases-loop → ℕ
 room_of s = min (length s.args.a.now) (length s.args.b.now)

@@ -25,13 +25,13 @@ start k = (measured k).before.before.before.before.before.before.before.before.b
 abbrev normal_of : tie.Start → Normal
 normal_of s = record {
   second = token_list s.args.second-bytes.now s.args.second-offsets.now s.args.second-ids.now s.args.second-lstrip.now s.args.second-rstrip.now;
-  step_bytes = s.args.step-bytes.now;
+  step_bytes = s.args.step_bytes.now;
   steps = take s.args.step_count s.args.steps;
   metaspace = s.args.metaspace;
 }
 
 abbrev own_of : tie.Start → List ℕ → Option ℕ
-own_of s = own_in s.args.index.now s.args.piece_bytes.now s.args.piece-offsets.now s.args.lookup.now
+own_of s = own_in s.args.index.now s.args.piece_bytes.now s.args.piece_offsets.now s.args.lookup.now
 
 lesser-requires : tie.Need-lesser-requires
 lesser-requires c κs = search rules

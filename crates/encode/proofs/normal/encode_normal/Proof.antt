@@ -28,7 +28,7 @@ start p = entered p.before.before.before
 
 -- What is lent: the tables, the tokens of the first list, what normalizing takes, the room, and what all this comes to.
 abbrev tables_of : tie.Start → Tables
-tables_of s = record { adjacency = s.args.adjacency.now; index = s.args.index.now; piece_bytes = s.args.piece_bytes.now; piece_offsets = s.args.piece-offsets.now; lookup = s.args.lookup.now; fallback = s.args.fallback.now; left = s.args.left.now; right = s.args.right.now; result = s.args.res.now; rank = s.args.rank.now }
+tables_of s = record { adjacency = s.args.adjacency.now; index = s.args.index.now; piece_bytes = s.args.piece_bytes.now; piece_offsets = s.args.piece_offsets.now; lookup = s.args.lookup.now; fallback = s.args.fallback.now; left = s.args.left.now; right = s.args.right.now; result = s.args.res.now; rank = s.args.rank.now }
 
 abbrev tokens_of : tie.Start → TokenList
 tokens_of s = token_list s.args.first-bytes.now s.args.first-offsets.now s.args.first-ids.now s.args.first-lstrip.now s.args.first-rstrip.now
@@ -36,7 +36,7 @@ tokens_of s = token_list s.args.first-bytes.now s.args.first-offsets.now s.args.
 abbrev normal_of : tie.Start → Normal
 normal_of s = record {
   second = token_list s.args.second-bytes.now s.args.second-offsets.now s.args.second-ids.now s.args.second-lstrip.now s.args.second-rstrip.now;
-  step_bytes = s.args.step-bytes.now;
+  step_bytes = s.args.step_bytes.now;
   steps = take s.args.step_count s.args.steps;
   metaspace = s.args.metaspace;
 }

@@ -25,13 +25,13 @@ start k = (measured k).before.before.before.before.before.before.before.before.b
 abbrev normal_of : tie.Start → Normal
 normal_of s = record {
   second = token_list s.args.second-bytes.now s.args.second-offsets.now s.args.second-ids.now s.args.second-lstrip.now s.args.second-rstrip.now;
-  step_bytes = s.args.step-bytes.now;
+  step_bytes = s.args.step_bytes.now;
   steps = take s.args.step_count s.args.steps;
   metaspace = s.args.metaspace;
 }
 
 abbrev tables_of : tie.Start → Tables
-tables_of s = record { adjacency = s.args.adjacency.now; index = s.args.index.now; piece_bytes = s.args.piece_bytes.now; piece_offsets = s.args.piece-offsets.now; lookup = s.args.lookup.now; fallback = s.args.fallback.now; left = s.args.left.now; right = s.args.right.now; result = s.args.res.now; rank = s.args.rank.now }
+tables_of s = record { adjacency = s.args.adjacency.now; index = s.args.index.now; piece_bytes = s.args.piece_bytes.now; piece_offsets = s.args.piece_offsets.now; lookup = s.args.lookup.now; fallback = s.args.fallback.now; left = s.args.left.now; right = s.args.right.now; result = s.args.res.now; rank = s.args.rank.now }
 
 -- No output is too long for the room that was measured.
 short_at : (k : tie.After-slice-known5) → outgrows (outputs_in (normal_of (start k)) (start k).args.opening (start k).args.section.now) (measured k).lesser.result ≡ false

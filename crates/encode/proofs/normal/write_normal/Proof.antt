@@ -46,7 +46,7 @@ start f = f.before.before.before.before.before.before.before.before.before.befor
 
 -- What is lent: the tables, the tokens of the first list, what normalizing takes, the room, and what all this comes to.
 abbrev tables_of : tie.Start invariant-loop decreases-loop → Tables
-tables_of s = tables s.args.adjacency.now s.args.index.now s.args.piece_bytes.now s.args.piece-offsets.now s.args.lookup.now s.args.fallback.now s.args.left.now s.args.right.now s.args.res.now s.args.rank.now
+tables_of s = tables s.args.adjacency.now s.args.index.now s.args.piece_bytes.now s.args.piece_offsets.now s.args.lookup.now s.args.fallback.now s.args.left.now s.args.right.now s.args.res.now s.args.rank.now
 
 abbrev tokens_of : tie.Start invariant-loop decreases-loop → TokenList
 tokens_of s = token_list s.args.first-bytes.now s.args.first-offsets.now s.args.first-ids.now s.args.first-lstrip.now s.args.first-rstrip.now
@@ -54,7 +54,7 @@ tokens_of s = token_list s.args.first-bytes.now s.args.first-offsets.now s.args.
 abbrev normal_of : tie.Start invariant-loop decreases-loop → Normal
 normal_of s = record {
   second = token_list s.args.second-bytes.now s.args.second-offsets.now s.args.second-ids.now s.args.second-lstrip.now s.args.second-rstrip.now;
-  step_bytes = s.args.step-bytes.now;
+  step_bytes = s.args.step_bytes.now;
   steps = take s.args.step_count s.args.steps;
   metaspace = s.args.metaspace;
 }

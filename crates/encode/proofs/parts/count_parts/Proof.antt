@@ -43,7 +43,7 @@ abbrev whole_of : tie.Start invariant-loop decreases-loop → List (Item NormalP
 whole_of s = normal_parts (tokens_of s) s.args.opening s.args.text.now
 
 abbrev own_of : tie.Start invariant-loop decreases-loop → List ℕ → Option ℕ
-own_of s = own_in s.args.index.now s.args.piece_bytes.now s.args.piece-offsets.now s.args.lookup.now
+own_of s = own_in s.args.index.now s.args.piece_bytes.now s.args.piece_offsets.now s.args.lookup.now
 
 parts-start-requires : tie.Need-parts-start-requires invariant-loop decreases-loop
 parts-start-requires c κs = search rules

@@ -38,7 +38,7 @@ abbrev parts_of : tie.Start invariant-loop decreases-loop → Section → List (
 parts_of s = raw_stretch s.args.prepend s.args.continuation s.args.text.now
 
 abbrev own_of : tie.Start invariant-loop decreases-loop → List ℕ → Option ℕ
-own_of s = own_in s.args.index.now s.args.piece_bytes.now s.args.piece-offsets.now s.args.lookup.now
+own_of s = own_in s.args.index.now s.args.piece_bytes.now s.args.piece_offsets.now s.args.lookup.now
 
 sections-start-requires : tie.Need-sections-start-requires invariant-loop decreases-loop
 sections-start-requires c κs = search rules

@@ -37,7 +37,7 @@ start f = f.before.before.before.before.before.before.before.before.before.befor
 
 -- What is lent: the tables, the tokens, what a section gives.
 abbrev tables_of : tie.Start invariant-loop decreases-loop → Tables
-tables_of s = tables s.args.adjacency.now s.args.index.now s.args.piece_bytes.now s.args.piece-offsets.now s.args.lookup.now s.args.fallback.now s.args.left.now s.args.right.now s.args.res.now s.args.rank.now
+tables_of s = tables s.args.adjacency.now s.args.index.now s.args.piece_bytes.now s.args.piece_offsets.now s.args.lookup.now s.args.fallback.now s.args.left.now s.args.right.now s.args.res.now s.args.rank.now
 
 abbrev tokens_of : tie.Start invariant-loop decreases-loop → TokenList
 tokens_of s = token_list s.args.bytes.now s.args.offsets.now s.args.ids.now s.args.lstrip.now s.args.rstrip.now

@@ -21,7 +21,7 @@ start c = c.before.before.before.before.before.before.before.before.before.befor
 abbrev safe : tie.After-slice-known → ℕ → Bool
 safe c =
     let a = (start c).args in
-    safe_in a.kind (named_crossings (strings a.piece_bytes.now a.piece-offsets.now) a.noted.now a.count) a.unguarded (tokens_of a.bytes.now a.offsets.now a.lstrip.now a.rstrip.now) a.text.now
+    safe_in a.kind (named_crossings (strings a.piece_bytes.now a.piece_offsets.now) a.noted.now a.count) a.unguarded (tokens_of a.bytes.now a.offsets.now a.lstrip.now a.rstrip.now) a.text.now
 
 abbrev size : tie.After-slice-known → ℕ
 size c = length (start c).args.text.now

@@ -23,7 +23,7 @@ abbrev start : tie.At-loop invariant-loop decreases-loop → tie.Start invariant
 start c = c.before.before.before.before.before
 
 abbrev cuts : tie.At-loop invariant-loop decreases-loop → ℕ → Bool
-cuts c = let a = (start c).args in mark_cuts a.kind (named_crossings (strings a.piece_bytes.now a.piece-offsets.now) a.noted.now a.count) true a.text.now
+cuts c = let a = (start c).args in mark_cuts a.kind (named_crossings (strings a.piece_bytes.now a.piece_offsets.now) a.noted.now a.count) true a.text.now
 
 abbrev size : tie.At-loop invariant-loop decreases-loop → ℕ
 size c = length (start c).args.text.now
@@ -64,7 +64,7 @@ loop-again-2 : tie.Need-loop-preserved-2 invariant-loop decreases-loop
 loop-again-2 c = let t = c.before.before.before.before in
     let a = (start t).args in
     let inside = c.before.before.before.loop-test.true in
-    t.loop.invariant ∙ first_next (cuts t) (size t) t.loop.p inside (no_mark a.kind (named_crossings (strings a.piece_bytes.now a.piece-offsets.now) a.noted.now a.count) a.text.now t.loop.p inside (sym c.before.may-cut.ensures ∙ c.if1.false))
+    t.loop.invariant ∙ first_next (cuts t) (size t) t.loop.p inside (no_mark a.kind (named_crossings (strings a.piece_bytes.now a.piece_offsets.now) a.noted.now a.count) a.text.now t.loop.p inside (sym c.before.may-cut.ensures ∙ c.if1.false))
 
 returns-2 : tie.Need-returns-2 invariant-loop decreases-loop
 returns-2 c = let t = c.before in

@@ -19,7 +19,7 @@ over c =
     let a = (start c).args in
     record {
       kind = a.kind;
-      noted = named_crossings (strings a.piece_bytes.now a.piece-offsets.now) a.noted.now a.count;
+      noted = named_crossings (strings a.piece_bytes.now a.piece_offsets.now) a.noted.now a.count;
       unguarded = a.unguarded;
       tokens = tokens_of a.bytes.now a.offsets.now a.lstrip.now a.rstrip.now;
       text = a.text.now;

@@ -43,11 +43,11 @@ here f = stepped (entry (wide-turn f)).args.unit.now (wide-turn f).loop.i f.char
 
 -- where the byte is a character by itself
 lone : (t : tie.Then1 invariant-loop decreases-loop) → (let a = turn t.before in let st = (entry a).args in
-    Alone st.piece_bytes.now st.piece-offsets.now st.lookup.now st.first-bytes.now st.mark-id st.raw st.unit.now a.loop.i t.before.own-byte.result)
+    Alone st.piece_bytes.now st.piece_offsets.now st.lookup.now st.first-bytes.now st.mark-id st.raw st.unit.now a.loop.i t.before.own-byte.result)
 lone t =
     let a = turn t.before in
     let st = (entry a).args in
-    alone st.piece_bytes.now st.piece-offsets.now st.lookup.now st.first-bytes.now st.mark-id st.raw st.unit.now a.loop.i t.before.before.before.loop-test.true t.before.own-byte.ensures t.if1.true
+    alone st.piece_bytes.now st.piece_offsets.now st.lookup.now st.first-bytes.now st.mark-id st.raw st.unit.now a.loop.i t.before.before.before.loop-test.true t.before.own-byte.ensures t.if1.true
 
 slice-aggregate-spell-mark : tie.Need-slice-aggregate-spell-mark invariant-loop decreases-loop
 slice-aggregate-spell-mark c = search rules
@@ -61,7 +61,7 @@ lesser-requires c κs = search rules
 loop-holds : tie.Need-loop-init invariant-loop decreases-loop
 loop-holds c =
     let st = (start c.before.before.before).args in
-    let own = own_found st.piece_bytes.now st.piece-offsets.now st.lookup.now st.first-bytes.now st.mark-id in
+    let own = own_found st.piece_bytes.now st.piece_offsets.now st.lookup.now st.first-bytes.now st.mark-id in
     let first = mark-one own st.fallback.now st.virtual-mark (replicate 4 0) c.before.before.spell-mark.ensures in
     (omega arith, omega (arith, first), c.before.before.spell-mark.auto.1.1.1.1.1.1.1.0, tallied_start own st.fallback.now st.virtual-mark st.raw st.unit.now (replicate 4 0) st.room (omega arith) c.before.before.spell-mark.ensures c.lesser.ensures)
 
@@ -151,7 +151,7 @@ add-drops c =
     let a = wide-turn f.before.before.before in
     let st = (entry a).args in
     let char = as_mark st.raw (take (a.loop.i + f.before.before.before.char-step.result - a.loop.i) (drop a.loop.i st.unit.now)) in
-    let g = given (own_found st.piece_bytes.now st.piece-offsets.now st.lookup.now st.first-bytes.now st.mark-id) st.fallback.now char a.loop.ids f.spell-as.ensures in
+    let g = given (own_found st.piece_bytes.now st.piece_offsets.now st.lookup.now st.first-bytes.now st.mark-id) st.fallback.now char a.loop.ids f.spell-as.ensures in
     omega (arith, (entry a).good.1.1.1.1.1.1.0.1, given-one g, a.loop.inv.1, a.loop.inv.0)
 
 loop-less-3 : tie.Need-loop-smaller-3 invariant-loop decreases-loop
@@ -165,7 +165,7 @@ loop-again-3 c =
     let a = wide-turn f.before.before.before in
     let st = (entry a).args in
     let char = as_mark st.raw (take (a.loop.i + f.before.before.before.char-step.result - a.loop.i) (drop a.loop.i st.unit.now)) in
-    let g = given (own_found st.piece_bytes.now st.piece-offsets.now st.lookup.now st.first-bytes.now st.mark-id) st.fallback.now char a.loop.ids f.spell-as.ensures in
+    let g = given (own_found st.piece_bytes.now st.piece_offsets.now st.lookup.now st.first-bytes.now st.mark-id) st.fallback.now char a.loop.ids f.spell-as.ensures in
     let h = here f.before.before.before in (
       h.ends,
       omega (arith, given-one g, a.loop.inv.1, h.some),

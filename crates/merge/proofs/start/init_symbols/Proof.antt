@@ -24,13 +24,13 @@ start f = f.before.before.before.before.before.before.before.before.before.befor
 
 -- The walk as it stands at the loop's test.
 walked : (a : tie.At-loop invariant-loop decreases-loop)
-    → Walked (own_found (start a.before).args.piece_bytes.now (start a.before).args.piece-offsets.now (start a.before).args.lookup.now (start a.before).args.first-bytes.now (start a.before).args.mark-id) (start a.before).args.fallback.now
+    → Walked (own_found (start a.before).args.piece_bytes.now (start a.before).args.piece_offsets.now (start a.before).args.lookup.now (start a.before).args.first-bytes.now (start a.before).args.mark-id) (start a.before).args.fallback.now
     (marked_chars (start a.before).args.virtual-mark (start a.before).args.raw (start a.before).args.unit.now)
     (unit_chars (start a.before).args.raw (drop a.loop.i (start a.before).args.unit.now))
     (start a.before).args.out.now a.loop.out a.loop.count a.loop.drops
 walked a =
     let st = (start a.before).args in
-    a.loop.invariant.2.goes (walked_start (own_found st.piece_bytes.now st.piece-offsets.now st.lookup.now st.first-bytes.now st.mark-id) st.fallback.now st.virtual-mark st.raw st.unit.now st.out.now a.before.before.before.spell-mark.ensures)
+    a.loop.invariant.2.goes (walked_start (own_found st.piece_bytes.now st.piece_offsets.now st.lookup.now st.first-bytes.now st.mark-id) st.fallback.now st.virtual-mark st.raw st.unit.now st.out.now a.before.before.before.spell-mark.ensures)
 
 -- where the loop stands, from where the byte's own id is sought, and from where the character's width is known
 abbrev turn : tie.After-own-byte invariant-loop decreases-loop → tie.At-loop invariant-loop decreases-loop
@@ -47,11 +47,11 @@ here f = stepped (start (wide-turn f).before).args.unit.now (wide-turn f).loop.i
 
 -- where the byte is a character by itself
 lone : (t : tie.Then1 invariant-loop decreases-loop) → (let a = turn t.before in let st = (start a.before).args in
-    Alone st.piece_bytes.now st.piece-offsets.now st.lookup.now st.first-bytes.now st.mark-id st.raw st.unit.now a.loop.i t.before.own-byte.result)
+    Alone st.piece_bytes.now st.piece_offsets.now st.lookup.now st.first-bytes.now st.mark-id st.raw st.unit.now a.loop.i t.before.own-byte.result)
 lone t =
     let a = turn t.before in
     let st = (start a.before).args in
-    alone st.piece_bytes.now st.piece-offsets.now st.lookup.now st.first-bytes.now st.mark-id st.raw st.unit.now a.loop.i t.before.before.before.loop-test.true t.before.own-byte.ensures t.if1.true
+    alone st.piece_bytes.now st.piece_offsets.now st.lookup.now st.first-bytes.now st.mark-id st.raw st.unit.now a.loop.i t.before.before.before.loop-test.true t.before.own-byte.ensures t.if1.true
 
 spell-mark-requires : tie.Need-spell-mark-requires invariant-loop decreases-loop
 spell-mark-requires c κs = search rules
@@ -155,7 +155,7 @@ add-count-2 c =
     let a = wide-turn f.before.before.before in
     let st = (start a.before).args in
     let char = as_mark st.raw (take (a.loop.i + f.before.before.before.char-step.result - a.loop.i) (drop a.loop.i st.unit.now)) in
-    let g = given (own_found st.piece_bytes.now st.piece-offsets.now st.lookup.now st.first-bytes.now st.mark-id) st.fallback.now char (take (length a.loop.out - a.loop.count) (drop a.loop.count a.loop.out)) f.spell-as.ensures in
+    let g = given (own_found st.piece_bytes.now st.piece_offsets.now st.lookup.now st.first-bytes.now st.mark-id) st.fallback.now char (take (length a.loop.out - a.loop.count) (drop a.loop.count a.loop.out)) f.spell-as.ensures in
     let w = walked a in
     omega (arith, (out-fits (start a.before)).0, g.count, length-take (length a.loop.out - a.loop.count) (drop a.loop.count a.loop.out), w.laying.count.within, w.laying.long)
 
@@ -165,8 +165,8 @@ add-drops c =
     let a = wide-turn f.before.before.before in
     let st = (start a.before).args in
     let char = as_mark st.raw (take (a.loop.i + f.before.before.before.char-step.result - a.loop.i) (drop a.loop.i st.unit.now)) in
-    let g = given (own_found st.piece_bytes.now st.piece-offsets.now st.lookup.now st.first-bytes.now st.mark-id) st.fallback.now char (take (length a.loop.out - a.loop.count) (drop a.loop.count a.loop.out)) f.spell-as.ensures in
-    let first = mark-one (own_found st.piece_bytes.now st.piece-offsets.now st.lookup.now st.first-bytes.now st.mark-id) st.fallback.now st.virtual-mark st.out.now a.before.before.before.spell-mark.ensures in
+    let g = given (own_found st.piece_bytes.now st.piece_offsets.now st.lookup.now st.first-bytes.now st.mark-id) st.fallback.now char (take (length a.loop.out - a.loop.count) (drop a.loop.count a.loop.out)) f.spell-as.ensures in
+    let first = mark-one (own_found st.piece_bytes.now st.piece_offsets.now st.lookup.now st.first-bytes.now st.mark-id) st.fallback.now st.virtual-mark st.out.now a.before.before.before.spell-mark.ensures in
     omega (arith, (start a.before).good.1.1.1.1.1.1.0.1, given-one g, first, a.loop.inv.1, a.loop.inv.0)
 
 loop-less-3 : tie.Need-loop-smaller-3 invariant-loop decreases-loop
@@ -180,7 +180,7 @@ loop-again-3 c =
     let a = wide-turn f.before.before.before in
     let st = (start a.before).args in
     let char = as_mark st.raw (take (a.loop.i + f.before.before.before.char-step.result - a.loop.i) (drop a.loop.i st.unit.now)) in
-    let g = given (own_found st.piece_bytes.now st.piece-offsets.now st.lookup.now st.first-bytes.now st.mark-id) st.fallback.now char (take (length a.loop.out - a.loop.count) (drop a.loop.count a.loop.out)) f.spell-as.ensures in
+    let g = given (own_found st.piece_bytes.now st.piece_offsets.now st.lookup.now st.first-bytes.now st.mark-id) st.fallback.now char (take (length a.loop.out - a.loop.count) (drop a.loop.count a.loop.out)) f.spell-as.ensures in
     let h = here f.before.before.before in
     (h.ends, omega (arith, given-one g, a.loop.inv.1, h.some), onward_next a.loop.inv.2 (unit-at st.raw st.unit.now a.loop.i h (inside f.before.before.before)) g)
 

@@ -23,7 +23,7 @@ cast-t10 c =
     let st = (start f).args in
     let all : (i : ℕ) → get_or st.lookup.now i 0 < 4294967296 = λ i. omega (arith, f.before.before.before.shared-slice-known3.given i) in
     let words : (i : ℕ) → get_or st.first-bytes.now i 0 < 4294967296 = λ i. omega (arith, f.before.before.shared-slice-known4.given i) in
-    omega (arith, own_below (strings st.piece_bytes.now st.piece-offsets.now) st.lookup.now st.first-bytes.now st.mark-id st.char.now (omega (arith, (start f).ranges.mark-id)) all words f.find-id.ensures c.before.id.given.1)
+    omega (arith, own_below (strings st.piece_bytes.now st.piece_offsets.now) st.lookup.now st.first-bytes.now st.mark-id st.char.now (omega (arith, (start f).ranges.mark-id)) all words f.find-id.ensures c.before.id.given.1)
 
 enum_told : tie.Need-enum-told
 enum_told c = search rules
@@ -32,13 +32,13 @@ returns : tie.Need-returns
 returns c =
     let f = c.before.before.before in
     let st = (start f).args in
-    own_at st.piece_bytes.now st.piece-offsets.now st.lookup.now st.first-bytes.now st.mark-id st.char.now f.find-id.ensures c.before.id.given.1
+    own_at st.piece_bytes.now st.piece_offsets.now st.lookup.now st.first-bytes.now st.mark-id st.char.now f.find-id.ensures c.before.id.given.1
 
 returns-2 : tie.Need-returns-2
 returns-2 c =
     let f = c.before.before in
     let st = (start f).args in
-    own_missing st.piece_bytes.now st.piece-offsets.now st.lookup.now st.first-bytes.now st.mark-id st.char.now f.find-id.ensures c.enum_told.given.1
+    own_missing st.piece_bytes.now st.piece_offsets.now st.lookup.now st.first-bytes.now st.mark-id st.char.now f.find-id.ensures c.enum_told.given.1
 
 pub own-id-spec : {M : Type 1} → statement M
 own-id-spec =

@@ -21,7 +21,7 @@ returns : tie.Need-returns
 returns c =
     let f = c.before.before.before.before in
     let st = (start f).args in
-    own_no_room (own_found st.piece_bytes.now st.piece-offsets.now st.lookup.now st.first-bytes.now st.mark-id) st.fallback.now st.char.now st.out.now f.own-id.ensures c.before.before.id.given.1 c.if1.true
+    own_no_room (own_found st.piece_bytes.now st.piece_offsets.now st.lookup.now st.first-bytes.now st.mark-id) st.fallback.now st.char.now st.out.now f.own-id.ensures c.before.before.id.given.1 c.if1.true
 
 slice-write-out : tie.Need-slice-write-out
 slice-write-out c = search rules
@@ -40,7 +40,7 @@ returns-2 c =
     let f = c.before.before.before.before in
     let some : 0 < length (start f).args.out.now = search rules in
     let st = (start f).args in
-    own_put (own_found st.piece_bytes.now st.piece-offsets.now st.lookup.now st.first-bytes.now st.mark-id) st.fallback.now st.char.now st.out.now f.own-id.ensures c.before.before.id.given.1 some
+    own_put (own_found st.piece_bytes.now st.piece_offsets.now st.lookup.now st.first-bytes.now st.mark-id) st.fallback.now st.char.now st.out.now f.own-id.ensures c.before.before.id.given.1 some
 
 same-length-2 : tie.Need-same-length-2
 same-length-2 c = search rules
@@ -50,7 +50,7 @@ returns-3 c =
     let f = c.before.before.before.before.before.before in
     let st = (start f).args in
     c.before.before.spell-bytes.ensures
-    ∙ own_lacking (own_found st.piece_bytes.now st.piece-offsets.now st.lookup.now st.first-bytes.now st.mark-id) st.fallback.now st.char.now st.out.now f.own-id.ensures c.before.before.before.before.enum_told.given.1
+    ∙ own_lacking (own_found st.piece_bytes.now st.piece_offsets.now st.lookup.now st.first-bytes.now st.mark-id) st.fallback.now st.char.now st.out.now f.own-id.ensures c.before.before.before.before.enum_told.given.1
 
 pub spell-spec : {M : Type 1} → statement M
 spell-spec =

@@ -51,7 +51,7 @@ same_length c = search rules
 returns : tie.Need-returns
 returns c =
     let st = (start c.before.before.before.before.before.before.before).args in
-    turn-given (applied st.step-bytes.now st.step) st.text.now st.room st.from st.a.now st.b.now _ _ _ c.before.before.before.before.before.enum_told.given.1 c.before.before.before.apply-step.ensures c.in-a.ensures
+    turn-given (applied st.step_bytes.now st.step) st.text.now st.room st.from st.a.now st.b.now _ _ _ c.before.before.before.before.before.enum_told.given.1 c.before.before.before.apply-step.ensures c.in-a.ensures
 
 same-length-2 : tie.Need-same-length-2
 same-length-2 c = search rules
@@ -63,7 +63,7 @@ returns-2 : tie.Need-returns-2
 returns-2 c =
     let f = c.before.before.before.before.before.before.before.before in
     let st = (start f.before.before).args in
-    turn_in_a (applied st.step-bytes.now st.step) st.text.now st.room st.from st.a.now st.b.now _ _ _ _ _ f.from.given.1 c.before.before.before.before.before.part.ensures c.before.before.before.apply-step2.ensures c.in_b.ensures
+    turn_in_a (applied st.step_bytes.now st.step) st.text.now st.room st.from st.a.now st.b.now _ _ _ _ _ f.from.given.1 c.before.before.before.before.before.part.ensures c.before.before.before.apply-step2.ensures c.in_b.ensures
 
 same-length-4 : tie.Need-same-length-4
 same-length-4 c = search rules
@@ -75,12 +75,12 @@ returns-3 : tie.Need-returns-3
 returns-3 c =
     let f = c.before.before.before.before.before.before.before.before in
     let st = (start f.before.before).args in
-    turn_in_b (applied st.step-bytes.now st.step) st.text.now st.room st.from st.a.now st.b.now _ _ _ _ _ f.from2.given.1 c.before.before.before.before.before.part2.ensures c.before.before.before.apply-step3.ensures c.in-a2.ensures
+    turn_in_b (applied st.step_bytes.now st.step) st.text.now st.room st.from st.a.now st.b.now _ _ _ _ _ f.from2.given.1 c.before.before.before.before.before.part2.ensures c.before.before.before.apply-step3.ensures c.in-a2.ensures
 
 returns-4 : tie.Need-returns-4
 returns-4 c =
     let st = (start c.before.before).args in
-    turn_too_long (applied st.step-bytes.now st.step) st.text.now st.room st.from st.a.now st.b.now c.enum-told2.given.1
+    turn_too_long (applied st.step_bytes.now st.step) st.text.now st.room st.from st.a.now st.b.now c.enum-told2.given.1
 
 pub run-step-spec : {M : Type 1} → statement M
 run-step-spec =

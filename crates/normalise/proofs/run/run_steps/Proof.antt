@@ -37,7 +37,7 @@ returns c =
     let l = c.before.before.loop in
     let st = (start c.before.before).args in
     let sixteen : length st.t2 ≡ 16 = search rules in
-    sym (l.invariant.4 ∙ steps-ended st.step-bytes.now st.t2 st.count l.i st.text.now st.room (record { ran = l.ran; a = l.a; b = l.b }) (omega (arith, length-take st.count st.t2, sixteen)))
+    sym (l.invariant.4 ∙ steps-ended st.step_bytes.now st.t2 st.count l.i st.text.now st.room (record { ran = l.ran; a = l.a; b = l.b }) (omega (arith, length-take st.count st.t2, sixteen)))
 
 mul-step : tie.Need-overflow-mul-step invariant-loop decreases-loop
 mul-step c = search rules
@@ -58,7 +58,7 @@ loop-again : tie.Need-loop-preserved invariant-loop decreases-loop
 loop-again c =
     let l = (loop c).loop in
     let st = (start (loop c)).args in
-    (search rules, search rules, search rules, search rules, l.inv.4 ∙ steps_next st.step-bytes.now st.t2 st.count l.i st.text.now st.room (record { ran = l.ran; a = l.a; b = l.b }) _ (search rules) (search rules) ∙ ap (steps_run st.step-bytes.now (drop (l.i + 1) (take st.count st.t2)) st.text.now st.room) (sym c.before.before.before.before.run_step.ensures))
+    (search rules, search rules, search rules, search rules, l.inv.4 ∙ steps_next st.step_bytes.now st.t2 st.count l.i st.text.now st.room (record { ran = l.ran; a = l.a; b = l.b }) _ (search rules) (search rules) ∙ ap (steps_run st.step_bytes.now (drop (l.i + 1) (take st.count st.t2)) st.text.now st.room) (sym c.before.before.before.before.run_step.ensures))
 
 same-length-3 : tie.Need-same-length-3 invariant-loop decreases-loop
 same-length-3 c = search rules
@@ -70,7 +70,7 @@ returns-2 : tie.Need-returns-2 invariant-loop decreases-loop
 returns-2 c =
     let l = c.before.loop in
     let st = (start c.before).args in
-    sym (l.invariant.4 ∙ steps-ended st.step-bytes.now st.t2 st.count l.i st.text.now st.room (record { ran = l.ran; a = l.a; b = l.b }) (omega (arith, length-take st.count st.t2)))
+    sym (l.invariant.4 ∙ steps-ended st.step_bytes.now st.t2 st.count l.i st.text.now st.room (record { ran = l.ran; a = l.a; b = l.b }) (omega (arith, length-take st.count st.t2)))
 
 pub run-steps-spec : {M : Type 1} → statement M
 run-steps-spec =

@@ -17,7 +17,7 @@ start c = c.before.before.before.before.before
 
 -- they are 1,024 words
 long : (c : tie.After-split-safe) → length c.split-safe.new.1.1.0 ≡ 1024
-long c = ap length c.split-safe.ensures ∙ length-adjacency (strings (start c).args.piece_bytes.now (start c).args.piece-offsets.now)
+long c = ap length c.split-safe.ensures ∙ length-adjacency (strings (start c).args.piece_bytes.now (start c).args.piece_offsets.now)
 
 split-safe-requires : tie.Need-split-safe-requires
 split-safe-requires c κs = search rules

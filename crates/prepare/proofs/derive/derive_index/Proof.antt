@@ -26,7 +26,7 @@ abbrev start : tie.After-word-split → tie.Start
 start c = c.before.before.before.before.before.before.before.before.before.before.before.before.before.before
 
 abbrev pieces : tie.Start → List (List ℕ)
-pieces s = strings s.args.piece_bytes.now s.args.piece-offsets.now
+pieces s = strings s.args.piece_bytes.now s.args.piece_offsets.now
 
 -- the contents of the two token lists
 abbrev first : tie.Start → List (List ℕ)
@@ -42,12 +42,12 @@ split c = c.before.before.before.before
 few : (c : tie.After-word-split) → c.word_split.result.count ≤ 32
 few c =
     let s = start c in
-    count_small (pieces s) s.args.lookup.now s.args.left.now s.args.right.now s.args.rank.now (first s) (second s) s.args.step-bytes.now (take s.args.step_count s.args.steps) s.args.metaspace c.word_split.result.kind c.word_split.result.count c.word_split.new.1.1.1.0 c.word_split.ensures
+    count_small (pieces s) s.args.lookup.now s.args.left.now s.args.right.now s.args.rank.now (first s) (second s) s.args.step_bytes.now (take s.args.step_count s.args.steps) s.args.metaspace c.word_split.result.kind c.word_split.result.count c.word_split.new.1.1.1.0 c.word_split.ensures
 
 long : (c : tie.After-word-split) → length c.word_split.new.1.1.1.0 ≡ 64
 long c =
     let s = start c in
-    words_64 (pieces s) s.args.lookup.now s.args.left.now s.args.right.now s.args.rank.now (first s) (second s) s.args.step-bytes.now (take s.args.step_count s.args.steps) s.args.metaspace c.word_split.result.kind c.word_split.result.count c.word_split.new.1.1.1.0 c.word_split.ensures
+    words_64 (pieces s) s.args.lookup.now s.args.left.now s.args.right.now s.args.rank.now (first s) (second s) s.args.step_bytes.now (take s.args.step_count s.args.steps) s.args.metaspace c.word_split.result.kind c.word_split.result.count c.word_split.new.1.1.1.0 c.word_split.ensures
 
 -- ---- after the index is filled
 
@@ -78,17 +78,17 @@ module _ (c : tie.After-fill-index) where
       ap (λ (n : ℕ). eqb n 0) (numbered.before.before.before.string-count.ensures ∙ sym (length-strings at-start.args.second-bytes.now at-start.args.second-offsets.now))
       ∙ sym (empty_by_length (second at-start))
 
-  path-is : numbered.before.before.raw-path.result ≡ raw_path_by filled-from.word_split.result.kind (is_empty (second at-start)) at-start.args.step-bytes.now (take at-start.args.step_count at-start.args.steps) at-start.args.metaspace
+  path-is : numbered.before.before.raw-path.result ≡ raw_path_by filled-from.word_split.result.kind (is_empty (second at-start)) at-start.args.step_bytes.now (take at-start.args.step_count at-start.args.steps) at-start.args.metaspace
   path-is =
       numbered.before.before.raw-path.ensures
       ∙ ap
-      (λ (empty : Bool). raw_path_by filled-from.word_split.result.kind empty at-start.args.step-bytes.now (take at-start.args.step_count at-start.args.steps) at-start.args.metaspace)
+      (λ (empty : Bool). raw_path_by filled-from.word_split.result.kind empty at-start.args.step_bytes.now (take at-start.args.step_count at-start.args.steps) at-start.args.metaspace)
       empty-is
 
-  row_is : row ≡ index_of (pieces at-start) at-start.args.lookup.now at-start.args.left.now at-start.args.right.now at-start.args.rank.now (first at-start) (second at-start) at-start.args.step-bytes.now (take at-start.args.step_count at-start.args.steps) at-start.args.metaspace
+  row_is : row ≡ index_of (pieces at-start) at-start.args.lookup.now at-start.args.left.now at-start.args.right.now at-start.args.rank.now (first at-start) (second at-start) at-start.args.step_bytes.now (take at-start.args.step_count at-start.args.steps) at-start.args.metaspace
   row_is =
       let s = at-start in
-      index_derived (pieces s) s.args.lookup.now s.args.left.now s.args.right.now s.args.rank.now (first s) (second s) s.args.step-bytes.now (take s.args.step_count s.args.steps) s.args.metaspace filled-from.word_split.result.kind filled-from.word_split.result.count filled-from.word_split.last.1.1.1.0 filled-from.word_split.ensures
+      index_derived (pieces s) s.args.lookup.now s.args.left.now s.args.right.now s.args.rank.now (first s) (second s) s.args.step_bytes.now (take s.args.step_count s.args.steps) s.args.metaspace filled-from.word_split.result.kind filled-from.word_split.result.count filled-from.word_split.last.1.1.1.0 filled-from.word_split.ensures
       numbered.before.before.raw-path.result numbered.before.kind-number.result numbered.raw-path-number.result path-is numbered.before.kind-number.ensures numbered.raw-path-number.ensures
 
 word-split-requires : tie.Need-word-split-requires

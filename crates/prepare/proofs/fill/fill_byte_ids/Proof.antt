@@ -19,7 +19,7 @@ start t = t.before.before.before.before.before
 
 -- the id of a byte
 abbrev row : tie.Start invariant-loop decreases-loop → ℕ → ℕ
-row s = byte_id (strings s.args.piece_bytes.now s.args.piece-offsets.now) s.args.lookup.now
+row s = byte_id (strings s.args.piece_bytes.now s.args.piece_offsets.now) s.args.lookup.now
 
 loop-holds : tie.Need-loop-init invariant-loop decreases-loop
 loop-holds c = let s = c.before.before.before.before in filled-start (row s) 256 326 s.args.words.now

@@ -21,7 +21,7 @@ abbrev start : tie.At-loop invariant-loop decreases-loop → tie.Start invariant
 start t = t.before.before.before.before.before
 
 abbrev pieces : tie.Start invariant-loop decreases-loop → List (List ℕ)
-pieces s = strings s.args.piece_bytes.now s.args.piece-offsets.now
+pieces s = strings s.args.piece_bytes.now s.args.piece_offsets.now
 
 -- where the entries of a byte begin
 abbrev row : tie.Start invariant-loop decreases-loop → ℕ → ℕ

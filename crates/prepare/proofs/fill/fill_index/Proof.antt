@@ -25,7 +25,7 @@ returns : tie.Need-returns
 returns c =
     let pieces = c.before.before.before.before.before.before in
     let s = start pieces.before in
-    index-filled s.args.kind s.args.raw-path s.args.count s.args.noted.now (strings s.args.piece_bytes.now s.args.piece-offsets.now) s.args.lookup.now s.args.left.now s.args.right.now s.args.rank.now
+    index-filled s.args.kind s.args.raw-path s.args.count s.args.noted.now (strings s.args.piece_bytes.now s.args.piece_offsets.now) s.args.lookup.now s.args.left.now s.args.right.now s.args.rank.now
     (strings s.args.first.now s.args.first-offsets.now) (strings s.args.second.now s.args.second-offsets.now) s.pre.1.1.1.0
     s.args.words.now pieces.fill-pieces.new.1.1.1.1.1.1.1.1.1.1.0 c.before.before.fill-tokens.new.1.1.1.1.0 pieces.fill-pieces.ensures c.before.before.fill-tokens.ensures
 

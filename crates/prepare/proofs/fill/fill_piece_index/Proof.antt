@@ -23,7 +23,7 @@ returns c =
     let bytes = c.before.before in
     let first = bytes.before.before.before.before in
     let s = start first in
-    piece-index-filled (strings s.args.piece_bytes.now s.args.piece-offsets.now) s.args.lookup.now s.args.words.now first.fill-first-bytes.new.1.1.1.0 bytes.fill-byte-ids.new.1.1.1.0
+    piece-index-filled (strings s.args.piece_bytes.now s.args.piece_offsets.now) s.args.lookup.now s.args.words.now first.fill-first-bytes.new.1.1.1.0 bytes.fill-byte-ids.new.1.1.1.0
     s.pre.1.1 first.fill-first-bytes.ensures bytes.fill-byte-ids.ensures
 
 pub fill-piece-index-spec : {M : Type 1} → statement M

@@ -23,7 +23,7 @@ abbrev start : tie.After-key-id → tie.Start
 start c = start_of c.before
 
 abbrev pieces : tie.Start → List (List ℕ)
-pieces s = strings s.args.piece_bytes.now s.args.piece-offsets.now
+pieces s = strings s.args.piece_bytes.now s.args.piece_offsets.now
 
 string-count-requires : tie.Need-string-count-requires
 string-count-requires c κs = search rules
@@ -45,7 +45,7 @@ mark-is c = c.key-id.ensures
 shift_is : (c : tie.After-key-id) → c.before.before.bucket-shift.result ≡ bucket_shift (length (pieces (start c)))
 shift_is c =
     c.before.before.bucket-shift.ensures.0
-    ∙ ap bucket_shift (c.before.before.before.string-count.ensures ∙ sym (length-strings (start c).args.piece_bytes.now (start c).args.piece-offsets.now))
+    ∙ ap bucket_shift (c.before.before.before.string-count.ensures ∙ sym (length-strings (start c).args.piece_bytes.now (start c).args.piece_offsets.now))
 
 -- there is room
 room : (s : tie.Start) → 168519 ≤ length s.args.words.now

@@ -25,7 +25,7 @@ abbrev start : tie.After-find-piece → tie.Start
 start c = c.before.before.before.before.before
 
 abbrev pieces : tie.Start → List (List ℕ)
-pieces s = strings s.args.piece_bytes.now s.args.piece-offsets.now
+pieces s = strings s.args.piece_bytes.now s.args.piece_offsets.now
 
 returns : tie.Need-returns
 returns c =

@@ -25,7 +25,7 @@ abbrev turn : tie.After-first-byte invariant-loop decreases-loop → tie.At-loop
 turn c = c.before.before.before.before.before
 
 abbrev pieces : tie.Start invariant-loop decreases-loop → List (List ℕ)
-pieces s = strings s.args.piece_bytes.now s.args.piece-offsets.now
+pieces s = strings s.args.piece_bytes.now s.args.piece_offsets.now
 
 -- the first byte of the entry's piece
 byte : (c : tie.After-first-byte invariant-loop decreases-loop) → c.first_byte.result ≡ get_or (piece (pieces (start (turn c))) (get_or (start (turn c)).args.lookup.now (turn c).loop.i 0)) 0 0

@@ -61,10 +61,10 @@ abbrev row_of : tie.Start invariant-loop decreases-loop → ℕ → ℕ → Opti
 row_of s = row_in s.args.left.now s.args.right.now s.args.res.now s.args.rank.now s.args.row-index.now s.args.shift
 
 abbrev own_of : tie.Start invariant-loop decreases-loop → List ℕ → Option ℕ
-own_of s = own_found s.args.piece_bytes.now s.args.piece-offsets.now s.args.lookup.now s.args.first-bytes.now s.args.mark-id
+own_of s = own_found s.args.piece_bytes.now s.args.piece_offsets.now s.args.lookup.now s.args.first-bytes.now s.args.mark-id
 
 abbrev cuts_of : tie.Start invariant-loop decreases-loop → ℕ → Bool
-cuts_of s = begins_unit s.args.kind (named_crossings (strings s.args.piece_bytes.now s.args.piece-offsets.now) s.args.noted.now s.args.count) (pair_noted s.args.adjacency.now) s.args.raw s.args.section.now
+cuts_of s = begins_unit s.args.kind (named_crossings (strings s.args.piece_bytes.now s.args.piece_offsets.now) s.args.noted.now s.args.count) (pair_noted s.args.adjacency.now) s.args.raw s.args.section.now
 
 -- The unit that is written next.
 here : (f : tie.After-next-unit invariant-loop decreases-loop) → NextUnit (cuts_of (start f.before.before)) (start f.before.before).args.section.now f.before.loop.from f.next-unit.result

@@ -27,10 +27,10 @@ abbrev row_of : tie.Start → ℕ → ℕ → Option Row
 row_of s = row_in s.args.left.now s.args.right.now s.args.res.now s.args.rank.now s.args.row-index.now s.args.shift
 
 abbrev own_of : tie.Start → List ℕ → Option ℕ
-own_of s = own_found s.args.piece_bytes.now s.args.piece-offsets.now s.args.lookup.now s.args.first-bytes.now s.args.mark-id
+own_of s = own_found s.args.piece_bytes.now s.args.piece_offsets.now s.args.lookup.now s.args.first-bytes.now s.args.mark-id
 
 abbrev cuts_of : tie.Start → ℕ → Bool
-cuts_of s = begins_unit s.args.kind (named_crossings (strings s.args.piece_bytes.now s.args.piece-offsets.now) s.args.noted.now s.args.count) (pair_noted s.args.adjacency.now) s.args.raw s.args.section.now
+cuts_of s = begins_unit s.args.kind (named_crossings (strings s.args.piece_bytes.now s.args.piece_offsets.now) s.args.noted.now s.args.count) (pair_noted s.args.adjacency.now) s.args.raw s.args.section.now
 
 abbrev start_at : tie.After-next-unit → tie.Start
 start_at f = start f.before

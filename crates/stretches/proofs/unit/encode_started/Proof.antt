@@ -21,7 +21,7 @@ unfolding unit_laid
 returns c =
     let f = c.before.before.before.before.before.before in
     let a = (start f).args in (
-      unit-merged (row_in a.left.now a.right.now a.result.now a.rank.now a.row-index.now a.shift) (own_found a.piece_bytes.now a.piece-offsets.now a.lookup.now a.first-bytes.now a.mark-id) a.fallback.now (marked_chars a.virtual-mark a.raw a.unit.now) a.out.now f.init-symbols.ensures c.before.before.bpe-merge-symbols-ranked.ensures,
+      unit-merged (row_in a.left.now a.right.now a.result.now a.rank.now a.row-index.now a.shift) (own_found a.piece_bytes.now a.piece_offsets.now a.lookup.now a.first-bytes.now a.mark-id) a.fallback.now (marked_chars a.virtual-mark a.raw a.unit.now) a.out.now f.init-symbols.ensures c.before.before.bpe-merge-symbols-ranked.ensures,
       ap (λ (l : Laid). l.symbols.count) f.init-symbols.ensures,
     )
 

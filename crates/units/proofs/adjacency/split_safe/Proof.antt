@@ -32,7 +32,7 @@ start a = a.before.before.before.before.before.before
 loop-holds : tie.Need-loop-init invariant-loop decreases-loop
 loop-holds c =
     let st = c.before.before.before.before.before.args in
-    (c.string-count.ensures ∙ sym (length-strings st.piece_bytes.now st.piece-offsets.now), search rules, ap (note_all (join_map neighbours (strings st.piece_bytes.now st.piece-offsets.now))) c.before.clear.ensures)
+    (c.string-count.ensures ∙ sym (length-strings st.piece_bytes.now st.piece_offsets.now), search rules, ap (note_all (join_map neighbours (strings st.piece_bytes.now st.piece_offsets.now))) c.before.clear.ensures)
 
 string-at-requires : tie.Need-string-at-requires invariant-loop decreases-loop
 string-at-requires c κs = search rules
@@ -50,15 +50,15 @@ loop-again : tie.Need-loop-preserved invariant-loop decreases-loop
 loop-again c =
     let l = c.before.before.before.before.loop in
     let st = (start c.before.before.before.before).args in
-    let pieces = strings st.piece_bytes.now st.piece-offsets.now in
+    let pieces = strings st.piece_bytes.now st.piece_offsets.now in
     (l.invariant.0, search rules, ap (note_all (join_map neighbours (drop (l.id + 1) pieces))) (c.note-pairs.ensures ∙ ap (λ (p : List ℕ). note_all (neighbours p) l.rows) c.before.before.string-at.ensures) ∙ sym (walked_next pieces l.rows l.id (search rules)) ∙ l.invariant.2)
 
 returns : tie.Need-returns invariant-loop decreases-loop
 returns c =
     let l = c.before.loop in
     let st = c.before.before.before.before.before.before.before.args in
-    let pieces = strings st.piece_bytes.now st.piece-offsets.now in
-    sym (walked_ended pieces l.rows l.id (search rules)) ∙ l.invariant.2 ∙ noted-rows st.piece_bytes.now st.piece-offsets.now (λ i. omega (arith, c.before.before.before.before.before.before.shared-slice-known.given i))
+    let pieces = strings st.piece_bytes.now st.piece_offsets.now in
+    sym (walked_ended pieces l.rows l.id (search rules)) ∙ l.invariant.2 ∙ noted-rows st.piece_bytes.now st.piece_offsets.now (λ i. omega (arith, c.before.before.before.before.before.before.shared-slice-known.given i))
 
 pub split-safe-spec : {M : Type 1} → statement M
 split-safe-spec =

@@ -22,7 +22,7 @@ abbrev start : tie.At-loop invariant-loop decreases-loop → tie.Start invariant
 start a = a.before.before.before.before.before.before
 
 abbrev pieces : tie.At-loop invariant-loop decreases-loop → List (List ℕ)
-pieces a = strings (start a).args.piece_bytes.now (start a).args.piece-offsets.now
+pieces a = strings (start a).args.piece_bytes.now (start a).args.piece_offsets.now
 
 abbrev head : tie.After-crossing-of invariant-loop decreases-loop → tie.At-loop invariant-loop decreases-loop
 head k = k.before.before.before
@@ -43,7 +43,7 @@ string-count-requires c κs = search rules
 loop-holds : tie.Need-loop-init invariant-loop decreases-loop
 loop-holds c =
     let st = c.before.before.before.before.before.args in
-    (c.string-count.ensures ∙ sym (length-strings st.piece_bytes.now st.piece-offsets.now), search rules, notes_start (strings st.piece_bytes.now st.piece-offsets.now) c.before.clear.new.0 c.before.clear.ensures)
+    (c.string-count.ensures ∙ sym (length-strings st.piece_bytes.now st.piece_offsets.now), search rules, notes_start (strings st.piece_bytes.now st.piece_offsets.now) c.before.clear.new.0 c.before.clear.ensures)
 
 string-at-requires : tie.Need-string-at-requires invariant-loop decreases-loop
 string-at-requires c κs = search rules

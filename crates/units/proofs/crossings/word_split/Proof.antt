@@ -15,7 +15,7 @@ clear-requires c κs = search rules
 returns : tie.Need-returns
 returns c =
     let st = c.before.before.before.before.before.before.args in
-    every_mark (strings st.piece_bytes.now st.piece-offsets.now) st.metaspace c.clear.new.0 c.clear.ensures (sym c.before.before.before.metaspace-splits.ensures ∙ c.before.before.if1.true)
+    every_mark (strings st.piece_bytes.now st.piece_offsets.now) st.metaspace c.clear.new.0 c.clear.ensures (sym c.before.before.before.metaspace-splits.ensures ∙ c.before.before.if1.true)
 
 unit-crossing-pieces-requires : tie.Need-unit-crossing-pieces-requires
 unit-crossing-pieces-requires c κs = search rules
@@ -23,7 +23,7 @@ unit-crossing-pieces-requires c κs = search rules
 returns-2 : tie.Need-returns-2
 returns-2 c =
     let st = c.before.before.before.before.before.before.args in
-    c.unit-crossing-pieces.ensures ∙ as_without (strings st.piece_bytes.now st.piece-offsets.now) st.metaspace (sym c.before.before.before.metaspace-splits.ensures ∙ c.before.before.if1.false)
+    c.unit-crossing-pieces.ensures ∙ as_without (strings st.piece_bytes.now st.piece_offsets.now) st.metaspace (sym c.before.before.before.metaspace-splits.ensures ∙ c.before.before.if1.false)
 
 pub word-split-spec : {M : Type 1} → statement M
 word-split-spec =

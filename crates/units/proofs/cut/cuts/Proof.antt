@@ -16,7 +16,7 @@ start k = k.before.before.before.before.before
 
 module _ (k : tie.After-shared-slice-known5) where
   abbrev crossings : List Crossing
-  crossings = named_crossings (strings (start k).args.piece_bytes.now (start k).args.piece-offsets.now) (start k).args.noted.now (start k).args.count
+  crossings = named_crossings (strings (start k).args.piece_bytes.now (start k).args.piece_offsets.now) (start k).args.noted.now (start k).args.count
 
   abbrev holds : ℕ → ℕ → Bool
   holds = pair_noted (start k).args.adjacency.now

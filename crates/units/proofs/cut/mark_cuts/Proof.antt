@@ -18,7 +18,7 @@ abbrev start : tie.After-mark-width → tie.Start
 start k = k.before.before.before.before.before.before
 
 abbrev noted : tie.After-mark-width → List Crossing
-noted k = named_crossings (strings (start k).args.piece_bytes.now (start k).args.piece-offsets.now) (start k).args.noted.now (start k).args.count
+noted k = named_crossings (strings (start k).args.piece_bytes.now (start k).args.piece_offsets.now) (start k).args.noted.now (start k).args.count
 
 -- the width is that of the mark at p
 width : (k : tie.After-mark-width) → k.mark-width.result ≡ mark_width (start k).args.raw (drop (start k).args.p (start k).args.section.now)

@@ -19,7 +19,7 @@ some-around-requires c κs = search rules
 returns : tie.Need-returns
 returns c =
     let st = c.before.before.before.before.before.before.before.args in
-    let noted = named_crossings (strings st.piece_bytes.now st.piece-offsets.now) st.noted.now st.count in
+    let noted = named_crossings (strings st.piece_bytes.now st.piece_offsets.now) st.noted.now st.count in
     c.some-around.ensures ∙ rw (c.before.before.part.ensures, c.before.behind-mark.ensures) (spanned_by st.section.now st.p st.raw noted)
 
 pub piece-spans-boundary-spec : {M : Type 1} → statement M

@@ -24,7 +24,7 @@ start a = a.before.before.before.before.before.before
 loop-holds : tie.Need-loop-init invariant-loop decreases-loop
 loop-holds c =
     let st = c.before.before.before.before.before.args in
-    (search rules, named_start (around st.before.now st.after.now) (strings st.piece_bytes.now st.piece-offsets.now) st.noted.now st.count)
+    (search rules, named_start (around st.before.now st.after.now) (strings st.piece_bytes.now st.piece_offsets.now) st.noted.now st.count)
 
 add-next : tie.Need-overflow-add-next invariant-loop decreases-loop
 add-next c = search rules
@@ -33,7 +33,7 @@ returns : tie.Need-returns invariant-loop decreases-loop
 returns c =
     let l = c.before.before.loop in
     let st = c.before.before.before.before.before.before.before.before.args in
-    sym (l.invariant.1 ∙ named_short (around st.before.now st.after.now) (strings st.piece_bytes.now st.piece-offsets.now) st.noted.now st.count l.at l.k (search rules))
+    sym (l.invariant.1 ∙ named_short (around st.before.now st.after.now) (strings st.piece_bytes.now st.piece_offsets.now) st.noted.now st.count l.at l.k (search rules))
 
 mul_wide : tie.Need-overflow-mul-wide invariant-loop decreases-loop
 mul_wide c = search rules
@@ -60,7 +60,7 @@ returns-2 : tie.Need-returns-2 invariant-loop decreases-loop
 returns-2 c =
     let l = c.before.before.before.before.before.before.before.before.loop in
     let st = (start c.before.before.before.before.before.before.before.before).args in
-    let pieces = strings st.piece_bytes.now st.piece-offsets.now in
+    let pieces = strings st.piece_bytes.now st.piece_offsets.now in
     sym (l.invariant.1 ∙ named_found (around st.before.now st.after.now) pieces st.noted.now st.count l.at l.k (search rules) (search rules) (ap (around st.before.now st.after.now) (sym (crossing_read pieces (get_or st.noted.now l.at 0) (get_or st.noted.now (l.at + 1) 0) _ _ c.before.before.before.before.wide.ensures.0 c.before.before.before.string-at.ensures)) ∙ sym c.before.lies-around.ensures ∙ c.if2.true))
 
 add_at : tie.Need-overflow-add-at invariant-loop decreases-loop
@@ -76,14 +76,14 @@ loop-again : tie.Need-loop-preserved invariant-loop decreases-loop
 loop-again c =
     let l = c.before.before.before.before.before.before.before.before.loop in
     let st = (start c.before.before.before.before.before.before.before.before).args in
-    let pieces = strings st.piece_bytes.now st.piece-offsets.now in
+    let pieces = strings st.piece_bytes.now st.piece_offsets.now in
     (search rules, l.invariant.1 ∙ named_next (around st.before.now st.after.now) pieces st.noted.now st.count l.at l.k (search rules) (search rules) (ap (around st.before.now st.after.now) (sym (crossing_read pieces (get_or st.noted.now l.at 0) (get_or st.noted.now (l.at + 1) 0) _ _ c.before.before.before.before.wide.ensures.0 c.before.before.before.string-at.ensures)) ∙ sym c.before.lies-around.ensures ∙ c.if2.false))
 
 returns-3 : tie.Need-returns-3 invariant-loop decreases-loop
 returns-3 c =
     let l = c.before.loop in
     let st = c.before.before.before.before.before.before.before.args in
-    sym (l.invariant.1 ∙ named_ended (around st.before.now st.after.now) (strings st.piece_bytes.now st.piece-offsets.now) st.noted.now st.count l.at l.k (search rules))
+    sym (l.invariant.1 ∙ named_ended (around st.before.now st.after.now) (strings st.piece_bytes.now st.piece_offsets.now) st.noted.now st.count l.at l.k (search rules))
 
 pub some-around-spec : {M : Type 1} → statement M
 some-around-spec =
