@@ -1,0 +1,14 @@
+-- `normalise::collapse::write_collapsed` meets its contract. The loop's invariant: `at` bytes of the output are written, and those of what
+-- follows from `i` on are left.
+-- the way back to the start
+use Prim.Native.Nat.{◌-◌, ◌≤◌}
+use lib.ListN.{length, drop}
+use Rattle.normalise.specs.Steps.{collapsed}
+use Rattle.utf8.proofs.Writing.{Written}
+use Rattle.normalise.proofs.collapse.write_collapsed.Given as goal
+
+abbrev pub invariant-loop-i : goal.invariant-loop-i
+invariant-loop-i l = (l.i ≤ length l.text) × Written (collapsed l.content l.text) (collapsed l.content (drop l.i l.text)) l.initial.out l.out l.at
+
+abbrev pub decreases-loop-i : goal.decreases-loop-i
+decreases-loop-i l = length l.text - l.i

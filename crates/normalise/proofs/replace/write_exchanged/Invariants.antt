@@ -1,0 +1,14 @@
+-- `normalise::replace::write_exchanged` meets its contract. The loop's invariant: `at` bytes of the output are written, and those of what
+-- follows from `i` on are left.
+-- the way back to the start
+use Prim.Native.Nat.{◌-◌, ◌≤◌}
+use lib.ListN.{length, drop}
+use Rattle.normalise.specs.Steps.{replaced}
+use Rattle.utf8.proofs.Writing.{Written}
+use Rattle.normalise.proofs.replace.write_exchanged.Given as goal
+
+abbrev pub invariant-loop-i : goal.invariant-loop-i
+invariant-loop-i l = (l.i ≤ length l.text) × Written (replaced l.pattern l.content l.text) (replaced l.pattern l.content (drop l.i l.text)) l.initial.out l.out l.at
+
+abbrev pub decreases-loop-i : goal.decreases-loop-i
+decreases-loop-i l = length l.text - l.i
