@@ -1,0 +1,33 @@
+-- `decode::decode_ids` meets its contract: the bytes are put out where there is room for all of them. Assumes nothing.
+-- where the bytes were put out, and the rest cleared
+use Prim.Native.Nat.{ℕ}
+use mathlib.Core.Path.{sym, ◌∙◌}
+use mathlib.Core.Bool.{not}
+use mathlib.Core.List.{List}
+use Rattle.model.specs.Model.{strings}
+use Rattle.decode.proofs.DecodeLaws.{ids_short, ids-fit, skips-counted}
+use Rattle.decode.proofs.decode_ids.Goals as goal
+use Rattle.decode.proofs.decode_ids.Goals.{Start}
+
+-- what is decoded
+abbrev pieces : Start → List (List ℕ)
+pieces s = strings s.args.piece_bytes.now s.args.piece_offsets.now
+
+pub text_fits-requires : goal.text_fits-requires
+text_fits-requires c = c.requires
+
+pub returns-then-not-text_fits : goal.returns-then-not-text_fits
+returns-then-not-text_fits c =
+    let s = (goal.at.returns-then-not-text_fits c).Start in
+    ids_short (pieces s) (not s.args.begun) s.args.ids.now s.args.out.now _ c.refused.ensures (sym c.text_fits.ensures ∙ c.if-not-text_fits.true)
+
+pub put_decoded-written-requires : goal.put_decoded-written-requires
+put_decoded-written-requires c = c.requires.ids_len_bound
+
+pub returns : goal.returns
+returns c =
+    let s = (goal.at.returns c).Start in
+    ids-fit (pieces s) (not s.args.begun) s.args.ids.now s.args.out.now _ _ _ _ _ (sym c.text_fits.ensures ∙ c.if-not-text_fits.false)
+    c.put_decoded-written.ensures c.out-1.given c.clear_bytes.ensures
+    (c.count_skips.ensures ∙ skips-counted s.args.piece_bytes.now s.args.piece_offsets.now s.args.ids.now _ c.string_count.ensures)
+    c.done.ensures

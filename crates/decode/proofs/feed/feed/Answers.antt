@@ -1,0 +1,45 @@
+-- `decode::feed::feed` meets its contract: where the byte breaks off what is held, that is put out first. Assumes nothing.
+-- what follows where the bytes held were put out
+use Prim.Native.Nat.{ℕ, ◌≤◌}
+use native.Mathlib.Omega.{arith}
+use mathlib.Core.Path.{◌≡◌, refl, sym, ap, ◌∙◌}
+use mathlib.Core.Bool.{true, false}
+use mathlib.Core.List.{List, []}
+use lib.ListN.{replicate}
+use Rattle.utf8.specs.Lists.{join}
+use Rattle.decode.specs.Decode.{replacement}
+use Rattle.decode.specs.inner.Feeding.{is_open, is_broken, held_by, holding}
+use Rattle.decode.proofs.FormLaws.{broken_none}
+use Rattle.decode.proofs.StateLaws.{held-count, held_short, held-holding, sound_empty, put-at, strays_long}
+use Rattle.decode.proofs.ByteLaws.{taken_broken}
+use Rattle.decode.proofs.feed.feed.Goals as goal
+use Rattle.decode.proofs.feed.feed.Goals.{After-is_broken}
+
+few : (b : After-is_broken) → b.args.s.count ≤ 3
+few b = omega (arith, held-count b.args.s b.requires.sound, held_short b.args.s b.requires.sound)
+
+whole-empty : (b : ℕ) → is_broken (held_by (holding [] true)) b ≡ false
+unfolding is_open
+whole-empty b = ap (λ (h : List ℕ). is_broken h b) (held-holding [] true refl) ∙ broken_none b
+
+pub is_broken-requires : goal.is_broken-requires
+is_broken-requires c = c.requires.sound
+
+pub take_in-requires : goal.take_in-requires
+take_in-requires c = record { sound = c.requires.sound; unbroken = sym c.is_broken.ensures ∙ c.if-not-is_broken.true; at_bound = omega (arith, c.requires.at_bound) }
+
+pub returns-then-not-is_broken : goal.returns-then-not-is_broken
+returns-then-not-is_broken c = c.take_in.ensures
+
+pub put_strays-next-requires : goal.put_strays-next-requires
+put_strays-next-requires c =
+    let b = (goal.at.put_strays-next-requires c).After-is_broken in
+    omega (arith, few b, b.requires.at_bound)
+
+pub take_in-requires-2 : goal.take_in-requires-2
+take_in-requires-2 c = let b = (goal.at.take_in-requires-2 c).After-is_broken in record { sound = rw c.empty.ensures (sound_empty true); unbroken = rw c.empty.ensures (whole-empty b.args.b); at_bound = omega (arith, few b, put-at (join (replicate b.args.s.count replacement)) _ _ c.put_strays-next.ensures, strays_long b.args.s.count, b.requires.at_bound) }
+
+pub returns : goal.returns
+returns c =
+    let s = c.args in
+    taken_broken s.s s.b s.at s.out.now c.requires.sound (sym c.is_broken.ensures ∙ c.if-not-is_broken.false) _ _ _ c.put_strays-next.ensures c.empty.ensures c.take_in-2.ensures

@@ -1,0 +1,12 @@
+-- `decode::words::all_or_none` meets its contract. Assumes nothing.
+use borrow.Author.Tests.{le-leb, lt-leb}
+use Rattle.decode.specs.inner.Words.{all_or_none}
+use Rattle.decode.proofs.words.all_or_none.Goals as goal
+
+pub returns-then-room-at : goal.returns-then-room-at
+unfolding all_or_none
+returns-then-room-at c = rw (le-leb c.args.room c.args.at c.if-room-at.true)
+
+pub returns : goal.returns
+unfolding all_or_none
+returns c = rw (lt-leb c.args.room c.args.at c.if-room-at.false)

@@ -1,0 +1,6 @@
+-- `decode::words::is_mark_word` meets its contract. Assumes nothing.
+use Rattle.decode.proofs.WordLaws.{mark_word}
+use Rattle.decode.proofs.words.is_mark_word.Goals as goal
+
+pub returns : goal.returns
+returns c = mark_word c.args.word
