@@ -1,0 +1,20 @@
+-- `merge::start::count_symbols` meets its contract. The loop's invariant: the characters before `i` are counted.
+-- the start of the call, from where the loop stands
+-- where the loop stands, from where the byte's own id is sought, and from where the character's width is known
+use Prim.Native.Nat.{◌+◌, ◌-◌, ◌≤◌}
+use mathlib.Core.Path.{◌≡◌}
+use lib.ListN.{length, drop}
+use Rattle.merge.specs.Start.{unit_chars}
+use Rattle.merge.specs.inner.Laid.{own_found, marked_chars}
+use Rattle.merge.proofs.WalkLaws.{Tallied}
+use Rattle.merge.proofs.start.count_symbols.Given as goal
+
+abbrev pub invariant-loop-i : goal.invariant-loop-i
+invariant-loop-i l =
+    (l.i ≤ length l.unit)
+    × (l.drops ≤ 1 + l.i)
+    × (length l.ids ≡ 4)
+    × Tallied (own_found l.piece_bytes l.piece_offsets l.lookup l.first_bytes l.mark_id) l.fallback (marked_chars l.virtual_mark l.raw l.unit) (unit_chars l.raw (drop l.i l.unit)) l.room l.count l.drops
+
+abbrev pub decreases-loop-i : goal.decreases-loop-i
+decreases-loop-i l = length l.unit - l.i

@@ -1,0 +1,17 @@
+-- `prepare::pairs::fill_second` meets its contract. The loop's invariant: behind the words of the first table stand those of the second over
+-- the first `i` rows.
+-- ---- from where the second table is cleared
+-- the same, from where the loop stands
+-- ---- from where the row's slot of the first table is known
+-- ---- from where its slot of the second is known
+use mathlib.Core.Path.{◌≡◌}
+use Prim.Native.Nat.{◌-◌, ◌≤◌}
+use lib.ListN.{length, take}
+use Rattle.prepare.proofs.PairLaws.{both_tables}
+use Rattle.prepare.proofs.pairs.fill_second.Given as goal
+
+abbrev pub invariant-loop-i : goal.invariant-loop-i
+invariant-loop-i l = (l.i ≤ length l.left) × (length l.words ≡ 163840) × (l.words ≡ both_tables l.left l.right l.rank (take 131072 l.initial.words) 32768 l.i)
+
+abbrev pub decreases-loop-i : goal.decreases-loop-i
+decreases-loop-i l = length l.left - l.i
