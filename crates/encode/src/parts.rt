@@ -103,7 +103,7 @@ pub(crate) fn encode_part(
     out: &mut [u32],
 ) -> usize
     requires { room ≤ length scratch.old }
-    ensures { ◌≡◌ {A = Merged} (record { count = result; ids = out.new }) (unless_long (outgrows (metaspace_output metaspace first bytes.now) room) (parts_writer (record { adjacency = adjacency.entry.now; index = index.now; piece_bytes = piece_bytes.now; piece_offsets = piece_offsets.now; lookup = lookup.now; fallback = fallback.now; left = left.now; right = right.now; res = res.now; rank = rank.now }) (stretch (metaspaced metaspace first bytes.now) false false) out.old) out.old) }
+    ensures { ◌≡◌ {A = Merged} (record { count = result; ids = out.new }) (unless_long (outgrows (metaspace_output metaspace first bytes.now) room) (parts_writer (record { adjacency = adjacency.entry.now; index = index.now; piece_bytes = piece_bytes.now; piece_offsets = piece_offsets.now; lookup = lookup.now; fallback = fallback.now; left = left.now; right = right.now; result = res.now; rank = rank.now }) (stretch (metaspaced metaspace first bytes.now) false false) out.old) out.old) }
 {
     match metaspace {
         Metaspace::Absent => encode_stretch(
@@ -254,7 +254,7 @@ pub(crate) fn encode_parts(
     requires tokens_fine { bad_token (contents (token_list bytes.now offsets.now ids.now lstrip.now rstrip.now)) ≡ false }
     requires room_in_bounds { room ≤ length scratch.old }
     requires outputs_fit { outgrows (join_map (item_outputs (part_outputs metaspace)) (normal_parts (token_list bytes.now offsets.now ids.now lstrip.now rstrip.now) opening text.now)) room ≡ false }
-    ensures { ◌≡◌ {A = Merged} (record { count = result; ids = out.new }) (parts_writer (record { adjacency = adjacency.entry.now; index = index.now; piece_bytes = piece_bytes.now; piece_offsets = piece_offsets.now; lookup = lookup.now; fallback = fallback.now; left = left.now; right = right.now; res = res.now; rank = rank.now }) (taken_apart (part_stretch metaspace) (normal_parts (token_list bytes.now offsets.now ids.now lstrip.now rstrip.now) opening text.now)) out.old) }
+    ensures { ◌≡◌ {A = Merged} (record { count = result; ids = out.new }) (parts_writer (record { adjacency = adjacency.entry.now; index = index.now; piece_bytes = piece_bytes.now; piece_offsets = piece_offsets.now; lookup = lookup.now; fallback = fallback.now; left = left.now; right = right.now; result = res.now; rank = rank.now }) (taken_apart (part_stretch metaspace) (normal_parts (token_list bytes.now offsets.now ids.now lstrip.now rstrip.now) opening text.now)) out.old) }
 {
     let mut cursor = parts_start(text, opening);
     let mut written = 0;

@@ -116,7 +116,7 @@ pub fn write_raw(
 ) -> usize
     requires begins_noted { begins.now ≡ beginnings (contents (token_list bytes.now offsets.now ids.now lstrip.now rstrip.now)) (length begins.now) }
     requires tokens_fine { bad_token (contents (token_list bytes.now offsets.now ids.now lstrip.now rstrip.now)) ≡ false }
-    ensures { ◌≡◌ {A = Merged} (record { count = result; ids = out.new }) (parts_writer (record { adjacency = adjacency.entry.now; index = index.now; piece_bytes = piece_bytes.now; piece_offsets = piece_offsets.now; lookup = lookup.now; fallback = fallback.now; left = left.now; right = right.now; res = res.now; rank = rank.now }) (taken_apart (raw_stretch prepend continuation text.now) (sections (token_list bytes.now offsets.now ids.now lstrip.now rstrip.now) text.now)) out.old) }
+    ensures { ◌≡◌ {A = Merged} (record { count = result; ids = out.new }) (parts_writer (record { adjacency = adjacency.entry.now; index = index.now; piece_bytes = piece_bytes.now; piece_offsets = piece_offsets.now; lookup = lookup.now; fallback = fallback.now; left = left.now; right = right.now; result = res.now; rank = rank.now }) (taken_apart (raw_stretch prepend continuation text.now) (sections (token_list bytes.now offsets.now ids.now lstrip.now rstrip.now) text.now)) out.old) }
 {
     let mut cursor = sections_start(offsets, text);
     let mut written = 0;
@@ -188,7 +188,7 @@ pub fn encode_raw(
 ) -> Answer
     requires begins_noted { begins.now ≡ beginnings (contents (token_list bytes.now offsets.now ids.now lstrip.now rstrip.now)) (length begins.now) }
     requires tokens_fine { bad_token (contents (token_list bytes.now offsets.now ids.now lstrip.now rstrip.now)) ≡ false }
-    ensures { ◌≡◌ {A = Outcome} (record { answer = result; out = out.new }) (parts_outcome (record { adjacency = adjacency.entry.now; index = index.now; piece_bytes = piece_bytes.now; piece_offsets = piece_offsets.now; lookup = lookup.now; fallback = fallback.now; left = left.now; right = right.now; res = res.now; rank = rank.now }) (taken_apart (raw_stretch prepend continuation text.now) (sections (token_list bytes.now offsets.now ids.now lstrip.now rstrip.now) text.now)) out.old) }
+    ensures { ◌≡◌ {A = Outcome} (record { answer = result; out = out.new }) (parts_outcome (record { adjacency = adjacency.entry.now; index = index.now; piece_bytes = piece_bytes.now; piece_offsets = piece_offsets.now; lookup = lookup.now; fallback = fallback.now; left = left.now; right = right.now; result = res.now; rank = rank.now }) (taken_apart (raw_stretch prepend continuation text.now) (sections (token_list bytes.now offsets.now ids.now lstrip.now rstrip.now) text.now)) out.old) }
 {
     let counted = count_raw(
         index,

@@ -58,7 +58,7 @@ pub fn encode_section(
     section: &[u8],
     out: &mut [u32],
 ) -> usize
-    ensures { ◌≡◌ {A = Merged} (record { count = result; ids = out.new }) (parts_writer (record { adjacency = adjacency.entry.now; index = index.now; piece_bytes = piece_bytes.now; piece_offsets = piece_offsets.now; lookup = lookup.now; fallback = fallback.now; left = left.now; right = right.now; res = res.now; rank = rank.now }) (stretch section.now (virtual_mark prepend continuation opening section.now) true) out.old) }
+    ensures { ◌≡◌ {A = Merged} (record { count = result; ids = out.new }) (parts_writer (record { adjacency = adjacency.entry.now; index = index.now; piece_bytes = piece_bytes.now; piece_offsets = piece_offsets.now; lookup = lookup.now; fallback = fallback.now; left = left.now; right = right.now; result = res.now; rank = rank.now }) (stretch section.now (virtual_mark prepend continuation opening section.now) true) out.old) }
 {
     let mark = virtual_mark(prepend, continuation, opening, section);
     encode_stretch(

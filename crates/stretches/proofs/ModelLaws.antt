@@ -1,5 +1,5 @@
 -- What is counted and written of a stretch by the tables that are derived from an accepted model is what the definitions say. Assumes nothing.
-use Prim.Native.Nat.{ℕ, ◌+◌, ◌-◌, ◌<◌, min}
+use Prim.Native.Nat.{ℕ, ◌+◌, ◌<◌, min}
 use native.Mathlib.Omega.{arith}
 use mathlib.Core.Path.{◌≡◌, refl, sym, ap, ap₂, ◌∙◌, fun_ext, subst}
 use mathlib.Core.Bool.{Bool, true, false, cond}

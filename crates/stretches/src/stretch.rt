@@ -214,7 +214,7 @@ fn encode_by_rows(
     virtual_mark: bool,
     out: &mut [u32],
 ) -> usize
-    ensures { ◌≡◌ {A = Merged} (record { count = result; ids = out.new }) (stretch_in (record { adjacency = adjacency.entry.now; index = index.now; piece_bytes = piece_bytes.now; piece_offsets = piece_offsets.now; lookup = lookup.now; fallback = fallback.now; left = left.now; right = right.now; res = res.now; rank = rank.now }) virtual_mark raw section.now out.old) }
+    ensures { ◌≡◌ {A = Merged} (record { count = result; ids = out.new }) (stretch_in (record { adjacency = adjacency.entry.now; index = index.now; piece_bytes = piece_bytes.now; piece_offsets = piece_offsets.now; lookup = lookup.now; fallback = fallback.now; left = left.now; right = right.now; result = res.now; rank = rank.now }) virtual_mark raw section.now out.old) }
 {
     let kind = kind_from(number_at(index, prepare::KIND_AT));
     let count = wide(number_at(index, prepare::CROSSING_COUNT_AT));
@@ -264,7 +264,7 @@ pub fn encode_stretch(
     virtual_mark: bool,
     out: &mut [u32],
 ) -> usize
-    ensures { ◌≡◌ {A = Merged} (record { count = result; ids = out.new }) (parts_writer (record { adjacency = adjacency.entry.now; index = index.now; piece_bytes = piece_bytes.now; piece_offsets = piece_offsets.now; lookup = lookup.now; fallback = fallback.now; left = left.now; right = right.now; res = res.now; rank = rank.now }) (stretch section.now virtual_mark raw) out.old) }
+    ensures { ◌≡◌ {A = Merged} (record { count = result; ids = out.new }) (parts_writer (record { adjacency = adjacency.entry.now; index = index.now; piece_bytes = piece_bytes.now; piece_offsets = piece_offsets.now; lookup = lookup.now; fallback = fallback.now; left = left.now; right = right.now; result = res.now; rank = rank.now }) (stretch section.now virtual_mark raw) out.old) }
 {
     if section.len() == 0 {
         return 0;

@@ -1,0 +1,16 @@
+-- `fragments::ranges::write_ranges` meets its contract. The loop's invariant is `Ranging`.
+-- the start of the call, from where the loop stands, and what it searches
+-- the way back to the loop from where a range was put
+use Prim.Native.Nat.{◌-◌, ◌<◌}
+use lib.ListN.{length}
+use Rattle.model.specs.Model.{strings}
+use Rattle.units.specs.inner.Read.{named_crossings}
+use Rattle.fragments.specs.inner.Reach.{tokens_of}
+use Rattle.fragments.proofs.PassLaws.{Ranging}
+use Rattle.fragments.proofs.ranges.write_ranges.Given as goal
+
+abbrev pub invariant-loop-kind : goal.invariant-loop-kind
+invariant-loop-kind l = (pos : 0 < l.step) → Ranging (record { kind = l.kind; noted = named_crossings (strings l.piece_bytes l.piece_offsets) l.noted l.count; unguarded = l.unguarded; tokens = tokens_of l.bytes l.offsets l.lstrip l.rstrip; text = l.text }) l.step pos l.initial.out l.out l.written l.last l.ahead
+
+abbrev pub decreases-loop-kind : goal.decreases-loop-kind
+decreases-loop-kind l = length l.text - l.last

@@ -1,0 +1,16 @@
+-- `stretches::stretch::encode_stretch` meets its contract.
+use mathlib.Core.Path.{ap, ◌∙◌}
+use lib.ListN.{length}
+use Rattle.merge.specs.inner.Turns.{Merged}
+use Rattle.stretches.proofs.PartLaws.{nothing_written, section_written, keeps_parts}
+use Rattle.stretches.proofs.stretch.encode_stretch.Goals as goal
+
+pub returns-then-section-eq0 : goal.returns-then-section-eq0
+returns-then-section-eq0 c = nothing_written _ _ _ _ _ c.if-section-eq0.true
+
+pub returns : goal.returns
+returns c =
+    c.encode_by_rows.ensures ∙ section_written _ _ _ _ _ c.if-section-eq0.false
+
+pub shape_of-out : goal.shape_of-out
+shape_of-out c = ap (λ (d : Merged). length d.ids) (returns c) ∙ (keeps_parts _ _).long _
