@@ -1,0 +1,18 @@
+-- `varitmol::varitmol_encode_prepared` meets its contract: the numbers, and then `encode::encode_prepared` on what they stand for.
+-- the way back to where the numbers were turned into steps and a metaspace
+-- the start of the call, from where it begins to look
+use Rattle.varitmol.specs.Numbers.{answered_scratch}
+use Rattle.varitmol.proofs.varitmol_encode_prepared.Goals as goal
+
+pub returns-then-wrong_numbers : goal.returns-then-wrong_numbers
+unfolding answered_scratch
+returns-then-wrong_numbers c = rw (← c.wrong_numbers.ensures, c.if-wrong_numbers.true, c.refused.ensures)
+
+pub encode_prepared-requires : goal.encode_prepared-requires
+encode_prepared-requires c =
+    rw (c.steps_from.ensures, c.metaspace_from.ensures) c.requires
+
+pub returns : goal.returns
+unfolding answered_scratch
+returns c =
+    rw (← c.wrong_numbers.ensures, c.if-wrong_numbers.false, ← c.steps_from.ensures, ← c.metaspace_from.ensures) c.encode_prepared.ensures
