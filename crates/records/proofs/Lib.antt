@@ -1,6 +1,5 @@
--- Laws on the definitions of this crate, and what the walks by hand share.
+-- Laws on the definitions of this crate.
 pub mod RowLaws
 pub mod ColumnLaws
 pub mod LongestLaws
 pub mod SameLaws
-pub mod WalkLaws
