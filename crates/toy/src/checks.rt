@@ -53,7 +53,7 @@ fn check_and_tell(
         &no_ids,
         &no_flags,
         &no_flags,
-        b"\x_c3\x_a9",
+        b"\xC3\xA9",
         steps,
         1,
         Metaspace::Present {
@@ -135,7 +135,7 @@ pub(crate) fn run() {
         b"<n>",
     );
     check_t(b"T, but the first row gives ab", model::BAD_ROW, b"<n>");
-    check_t(b"T, but the token is no text", 0, b"<\xf_f>");
+    check_t(b"T, but the token is no text", 0, b"<\xFF>");
     check_t(b"T, but the token is empty", 0, b"");
     check_t(
         b"T, but the step string is half a letter",

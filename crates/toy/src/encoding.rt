@@ -473,7 +473,7 @@ fn two_sections(out: usize, room: usize) {
 fn table(continuation: bool) {
     bare(b"ab a", continuation, 6);
     bare(b" a", continuation, 6);
-    bare(b"\x_c3\x_a9", continuation, 6);
+    bare(b"\xC3\xA9", continuation, 6);
     bare(b"c", continuation, 6);
     bare(b"a.b", continuation, 6);
     u(b"U", 1, b"b a", continuation, RAW);
@@ -547,7 +547,7 @@ pub(crate) fn run() {
     table(true);
     // Characters that drop or fall back to bytes; no text; a result that is a cell short and exact.
     bare(b"acb", false, 6);
-    bare(b"\x_c3\x_a9\x_c3\x_a8", false, 6);
+    bare(b"\xC3\xA9\xC3\xA8", false, 6);
     bare(b"", false, 6);
     bare(b"ab a", false, 4);
     bare(b"ab a", false, 5);

@@ -61,7 +61,7 @@ fn fragment_and_tell(
         &no_ids,
         &no_flags,
         &no_flags,
-        b"\x_e2\x96\x81 ",
+        b"\xE2\x96\x81 ",
         steps,
         step_count,
         Metaspace::Present {

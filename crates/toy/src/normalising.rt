@@ -71,7 +71,7 @@ fn normalise_and_tell(
         &no_ids,
         &no_flags,
         &no_flags,
-        b"\x_c3\x_a9a",
+        b"\xC3\xA9a",
         steps,
         step_count,
         metaspace,
@@ -235,8 +235,8 @@ fn result_short_and_exact() {
 }
 
 pub(crate) fn run() {
-    strip(b"Strip of U+00A0, a, U+00A0", b"\x_c2\x_a0a\x_c2\x_a0");
-    strip(b"Strip of U+200B, a, U+200B", b"\x_e2\x80\x8_ba\x_e2\x80\x8_b");
+    strip(b"Strip of U+00A0, a, U+00A0", b"\xC2\xA0a\xC2\xA0");
+    strip(b"Strip of U+200B, a, U+200B", b"\xE2\x80\x8Ba\xE2\x80\x8B");
     empty_text();
     scratch_short_and_exact();
     result_short_and_exact();
