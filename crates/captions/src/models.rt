@@ -2,7 +2,7 @@
 // of French, and joined pieces that are frequent in it.
 use crate::tables::{Size, add_all_bytes, add_byte, add_words, empty, order_pieces, order_rows};
 
-#[derive(Drop)]
+#[derive(Clone, Copy)]
 pub(crate) enum Name {
     Embedded,
     T,

@@ -1,9 +1,6 @@
 // The built-in script.
 use crate::slices::copy;
 
-// What stands for a descriptor where the lines are the script's.
-pub(crate) const SCRIPT: i32 = -2;
-
 // Puts the script into the input, and answers how long it is.
 pub(crate) fn load(input: &mut [u8]) -> usize {
     let script =
