@@ -3,9 +3,9 @@
 
     tools/captions_cases.py [--cases cases/captions.jsonl] WORD...
 
-The words are the command that runs the program: target/bin/captions on x86-64, an emulator's in front of it elsewhere. A line of the cases has
-the arguments, what stands on standard input, as rows of a string and how often it comes, and what the program writes to standard output and
-standard error. Bytes that are no UTF-8 stand as Python's surrogateescape has them. The exit status is 0 only if all are as stored.
+The words are the command that runs the program: crates/captions/out/captions, where `rt run` leaves it on x86-64, an emulator's in front of it
+elsewhere. A line of the cases has the arguments, what stands on standard input, as rows of a string and how often it comes, and what the program
+writes to standard output and standard error. Bytes that are no UTF-8 stand as Python's surrogateescape has them. The exit status is 0 only if all are as stored.
 """
 import argparse
 import json
@@ -33,7 +33,7 @@ def main():
     parser.add_argument("command", nargs=argparse.REMAINDER)
     options = parser.parse_args()
     if not options.command:
-        end("which program? target/bin/captions")
+        end("which program? crates/captions/out/captions")
     cases = [json.loads(line) for line in options.cases.read_text().splitlines()]
     if not cases:
         end(f"{options.cases}: no case")

@@ -6,7 +6,7 @@ use crate::ids::parse;
 use crate::slices::front;
 use model::{Answer, Metaspace, Step};
 
-#[derive(Drop)]
+#[derive(Clone, Copy)]
 pub(crate) enum Call {
     // There is no line.
     Nothing,

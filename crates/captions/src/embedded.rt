@@ -8,7 +8,7 @@ use crate::tables::{
 };
 use model::tables::part;
 
-fn run_built(pieces: &[u8], numbers: &[u32], size: Size, job: Job) {
+fn run_built(pieces: &[u8], numbers: &[u32], size: Size, job: Job<'_>) {
     run_plain(
         part(pieces, 0, size.bytes),
         offsets_of(numbers, size.pieces),
@@ -22,7 +22,7 @@ fn run_built(pieces: &[u8], numbers: &[u32], size: Size, job: Job) {
     );
 }
 
-pub(crate) fn run(job: Job) {
+pub(crate) fn run(job: Job<'_>) {
     let name = job.name;
     let mut pieces = [0u8; 1024];
     let mut numbers = [NONE; NUMBERS];

@@ -2,7 +2,7 @@
 use crate::slices::{byte_at, put_number};
 use model::Answer;
 
-#[derive(Drop)]
+#[derive(Clone, Copy)]
 struct Row {
     count: usize,
     // Whether a byte was neither a digit nor white space, an id was above 4,294,967,295, or there were too many; and where.

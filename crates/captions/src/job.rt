@@ -1,12 +1,15 @@
 // What is to be done with the lines, once the arguments are understood.
+use crate::lines::Source;
 use crate::models::Name;
 use crate::options::Command;
+use crate::output::Stream;
 
-#[derive(Drop)]
-pub(crate) struct Job {
+#[derive(Clone, Copy)]
+pub(crate) struct Job<'a> {
     pub command: Command,
     pub name: Name,
     pub bare: bool,
-    // Where lines are read from: -1 is nowhere.
-    pub fd: i32,
+    pub source: Source<'a>,
+    pub output: Stream,
+    pub errors: Stream,
 }

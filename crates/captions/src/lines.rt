@@ -1,12 +1,26 @@
 // The lines of what is read, one after the other, in one buffer.
-use crate::script::{SCRIPT, load};
+use crate::job::Job;
+use crate::output::fail;
+use crate::script::load;
 use crate::slices::{byte_at, put_byte};
+use std::fs::File;
+use std::io;
+use std::io::{Read, Stdin};
+
+// Where lines are read from.
+#[derive(Clone, Copy)]
+pub(crate) enum Source<'a> {
+    Nowhere,
+    Script,
+    Input(Stdin),
+    File(&'a File),
+}
 
 // The longest line of a file. The buffer holds its line end too.
 pub(crate) const LONGEST: usize = 16384;
 
 // Where the buffer holds what is read and not yet taken, and whether more comes.
-#[derive(Drop)]
+#[derive(Clone, Copy)]
 pub(crate) struct Lines {
     pub start: usize,
     pub end: usize,
@@ -16,7 +30,7 @@ pub(crate) struct Lines {
     pub skipping: bool,
 }
 
-#[derive(Drop)]
+#[derive(Clone, Copy)]
 pub(crate) enum Kind {
     Whole,
     // No line yet: the buffer was filled again.
@@ -25,7 +39,7 @@ pub(crate) enum Kind {
     End,
 }
 
-#[derive(Drop)]
+#[derive(Clone, Copy)]
 pub(crate) struct Line {
     pub kind: Kind,
     pub from: usize,
@@ -69,26 +83,41 @@ fn ended(kept: usize, failed: bool, skipping: bool) -> Lines {
 }
 
 // What one read gave.
-#[derive(Drop)]
+#[derive(Clone, Copy)]
 enum Got {
     Bytes(usize),
     End,
     Failed,
 }
 
-fn read_once(fd: i32, rest: &mut [u8]) -> Got {
-    if fd < 0 {
-        return Got::End;
+fn read_from(source: Source<'_>, rest: &mut [u8]) -> io::Result<usize> {
+    match source {
+        Source::Nowhere => Ok(0),
+        Source::Script => Ok(0),
+        Source::Input(input) => {
+            let mut from = input;
+            from.read(rest)
+        }
+        Source::File(file) => {
+            let mut from = file;
+            from.read(rest)
+        }
     }
-    let got = libc::read(fd, rest);
-    if got < 0 {
-        os::fail(b"captions: reading");
-        return Got::Failed;
+}
+
+fn read_once(job: Job<'_>, rest: &mut [u8]) -> Got {
+    match read_from(job.source, rest) {
+        Ok(more) => {
+            if more == 0 {
+                return Got::End;
+            }
+            Got::Bytes(more)
+        }
+        Err(error) => {
+            fail(job.errors, b"captions: reading", error);
+            Got::Failed
+        }
     }
-    if got == 0 {
-        return Got::End;
-    }
-    Got::Bytes(io::count(got, rest))
 }
 
 fn with_bytes(kept: usize, more: usize, skipping: bool) -> Lines {
@@ -105,16 +134,16 @@ fn with_bytes(kept: usize, more: usize, skipping: bool) -> Lines {
 }
 
 // Reads behind what is still to be taken.
-fn filled(fd: i32, input: &mut [u8], lines: Lines) -> Lines {
+fn filled(job: Job<'_>, input: &mut [u8], lines: Lines) -> Lines {
     let skipping = lines.skipping;
-    if fd == SCRIPT {
+    if let Source::Script = job.source {
         return ended(load(input), false, false);
     }
     let kept = move_to_front(input, lines.start, lines.end);
     if input.len() < kept {
         return ended(0, true, skipping);
     }
-    let got = read_once(fd, &mut input[kept..]);
+    let got = read_once(job, &mut input[kept..]);
     match got {
         Got::Bytes(more) => with_bytes(kept, more, skipping),
         Got::End => ended(kept, false, skipping),
@@ -162,7 +191,7 @@ fn too_long(lines: Lines) -> Line {
     nothing(Kind::TooLong, next)
 }
 
-pub(crate) fn next_line(fd: i32, input: &mut [u8], lines: Lines) -> Line {
+pub(crate) fn next_line(job: Job<'_>, input: &mut [u8], lines: Lines) -> Line {
     let start = lines.start;
     let end = lines.end;
     let stop = line_end(input, start, end);
@@ -192,5 +221,5 @@ pub(crate) fn next_line(fd: i32, input: &mut [u8], lines: Lines) -> Line {
             return too_long(lines);
         }
     }
-    nothing(Kind::More, filled(fd, input, lines))
+    nothing(Kind::More, filled(job, input, lines))
 }

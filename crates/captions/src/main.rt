@@ -11,6 +11,7 @@ mod job;
 mod lines;
 mod models;
 mod options;
+mod output;
 mod report;
 mod script;
 mod session;
@@ -21,33 +22,30 @@ mod tell;
 mod work;
 
 use job::Job;
+use lines::Source;
+use model::compare::equal;
 use options::{Command, Options};
-use script::SCRIPT;
+use output::Stream;
+use std::fs::File;
+use std::io;
 
-// The descriptor of the file that argument `i` names: -1, and why in words, where there is none.
-fn opened(i: usize) -> i32 {
-    let mut path = io::buffer();
-    let length = os::arg(i, &mut path);
-    if length == 1 {
-        if path[0] == b'-' {
-            return 0;
-        }
+// The file at a path, whose name has to be text.
+fn opened(rt: &HostRuntime, path: &[u8]) -> io::Result<File> {
+    match std::str::from_utf8(path) {
+        Ok(path) => File::open(rt, path),
+        Err(_) => Err(io::Error::from(io::ErrorKind::InvalidFilename)),
     }
-    let fd = os::open_read(&path[..length]);
-    if fd < 0 {
-        os::fail(&path[..length]);
-        help::not_ok(b"nothing was read");
-    }
-    fd
 }
 
-fn job_of(options: Options, command: Command, fd: i32) -> Job {
+fn job_of<'a>(rt: &HostRuntime, options: Options, command: Command, source: Source<'a>) -> Job<'a> {
     let name = options.name;
     Job {
         command,
         name,
         bare: options.bare,
-        fd,
+        source,
+        output: Stream::Output(rt.stdout()),
+        errors: Stream::Errors(rt.stderr()),
     }
 }
 
@@ -59,39 +57,60 @@ fn needs_no_file(command: Command) -> bool {
     }
 }
 
-fn run_on_file(options: Options) {
+// Reads the file that argument `options.file` names; says why in words, where there is none.
+fn run_on_path(rt: &HostRuntime, options: Options) {
+    let command = options.command;
+    let errors = Stream::Errors(rt.stderr());
+    let mut word = [0u8; 4096];
+    let length = options::argument(rt, options.file, &mut word);
+    let path = &word[..length];
+    if equal(path, b"-") {
+        let input = Source::Input(rt.stdin());
+        return embedded::run(job_of(rt, options, command, input));
+    }
+    match opened(rt, path) {
+        Ok(file) => embedded::run(job_of(rt, options, command, Source::File(&file))),
+        Err(error) => {
+            output::fail(errors, path, error);
+            help::not_ok(errors, b"nothing was read");
+        }
+    }
+}
+
+fn run_on_file(rt: &HostRuntime, options: Options) {
     let command = options.command;
     if options.file == 0 {
         if needs_no_file(command) {
-            return embedded::run(job_of(options, command, -1));
+            return embedded::run(job_of(rt, options, command, Source::Nowhere));
         }
-        return help::not_ok(b"which FILE? - is standard input; captions --help says more");
+        return help::not_ok(
+            Stream::Errors(rt.stderr()),
+            b"which FILE? - is standard input; captions --help says more",
+        );
     }
-    let fd = opened(options.file);
-    if fd < 0 {
-        return;
-    }
-    embedded::run(job_of(options, command, fd));
-    libc::close(fd);
+    run_on_path(rt, options);
 }
 
-fn main() {
-    let options = options::read();
+fn main(rt: HostRuntime) {
+    let options = options::read(&rt);
     let command = options.command;
     if options.help {
-        return help::tell();
+        return help::tell(Stream::Output(rt.stdout()));
     }
     if options.wrong != 0 {
-        return help::tell_wrong(options);
+        return help::tell_wrong(&rt, Stream::Errors(rt.stderr()), options);
     }
     if options.expects_name {
-        return help::not_ok(b"--model wants embedded, T or U");
+        return help::not_ok(
+            Stream::Errors(rt.stderr()),
+            b"--model wants embedded, T or U",
+        );
     }
     let Command::Show = command else {
-        return run_on_file(options);
+        return run_on_file(&rt, options);
     };
     if options.bare {
-        return embedded::run(job_of(options, Command::Encode, SCRIPT));
+        return embedded::run(job_of(&rt, options, Command::Encode, Source::Script));
     }
-    embedded::run(job_of(options, command, SCRIPT));
+    embedded::run(job_of(&rt, options, command, Source::Script));
 }

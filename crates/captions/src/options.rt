@@ -1,8 +1,11 @@
 // What the arguments ask for.
+ghost use Rattle.std.specs.Prelude.{◌≤◌, length};
+
 use crate::models::Name;
 use model::compare::equal;
+use std::env::{Env, FillError};
 
-#[derive(Drop)]
+#[derive(Clone, Copy)]
 pub(crate) enum Command {
     // No command: the built-in script, all the way.
     Show,
@@ -23,7 +26,7 @@ pub(crate) fn goes_back(command: Command) -> bool {
 }
 
 // The arguments are told by their places, and 0 is the place of none.
-#[derive(Drop)]
+#[derive(Clone, Copy)]
 pub(crate) struct Options {
     pub command: Command,
     pub name: Name,
@@ -137,11 +140,28 @@ fn with_word(options: Options, i: usize, word: &[u8]) -> Options {
     with_file(options, i)
 }
 
+// Puts an argument at the start of `word`, and answers its length; 0 where there is none, or it is longer than `word`.
+pub(crate) fn argument(env: &impl Env, i: usize, word: &mut [u8]) -> usize
+    ensures { result ≤ length word.new }
+{
+    match env.arg(i, word) {
+        Ok(length) => length,
+        Err(_) => 0,
+    }
+}
+
+fn is_given(env: &impl Env, i: usize) -> bool {
+    match env.arg(i, &mut []) {
+        Err(FillError::NotPresent) => false,
+        _ => true,
+    }
+}
+
 // An argument that is longer than all the words known reads as an empty one, which is a file's name like any other; its first bytes stay,
 // and those of a flag tell it.
-fn with_argument(options: Options, i: usize) -> Options {
+fn with_argument(env: &impl Env, options: Options, i: usize) -> Options {
     let mut word = [0u8; 16];
-    let length = os::arg(i, &mut word);
+    let length = argument(env, i, &mut word);
     if options.expects_name {
         return with_name_of(options, i, &word[..length]);
     }
@@ -153,7 +173,7 @@ fn with_argument(options: Options, i: usize) -> Options {
     with_word(options, i, &word[..length])
 }
 
-pub(crate) fn read() -> Options {
+pub(crate) fn read(env: &impl Env) -> Options {
     let mut options = Options {
         command: Command::Show,
         name: Name::Embedded,
@@ -163,11 +183,11 @@ pub(crate) fn read() -> Options {
         wrong: 0,
         expects_name: false,
     };
-    let count = os::arg_count();
-    let mut i = 1;
-    while i < count {
-        options = with_argument(options, i);
-        i += 1;
+    for i in 1..usize::MAX {
+        if !is_given(env, i) {
+            break;
+        }
+        options = with_argument(env, options, i);
     }
     options
 }

@@ -4,6 +4,7 @@ use crate::job::Job;
 use crate::lines::LONGEST;
 use crate::models::Name;
 use crate::options::Command;
+use crate::output::{Stream, print_decimal, write_all};
 use crate::slices::front;
 use crate::tally::{Tally, with_change, with_write};
 use crate::work::{State, after_call};
@@ -12,85 +13,85 @@ use model::Answer;
 use model::compare::equal;
 use model::tables::{part, string_count};
 
-fn model_name(fd: i32, name: Name) {
+fn model_name(to: Stream, name: Name) {
     match name {
         Name::Embedded => {
-            io::write_all(fd, b"embedded");
+            write_all(to, b"embedded");
         }
         Name::T => {
-            io::write_all(fd, b"T");
+            write_all(to, b"T");
         }
         Name::U => {
-            io::write_all(fd, b"U");
+            write_all(to, b"U");
         }
     }
 }
 
-fn model_sizes(fd: i32, name: Name, pieces: usize, rows: usize) {
-    io::write_all(fd, b"the model ");
-    model_name(fd, name);
-    io::write_all(fd, b", ");
-    io::print_decimal(fd, pieces as u64);
-    io::write_all(fd, b" pieces and ");
-    io::print_decimal(fd, rows as u64);
-    io::write_all(fd, b" merge rows, is ");
+fn model_sizes(to: Stream, name: Name, pieces: usize, rows: usize) {
+    write_all(to, b"the model ");
+    model_name(to, name);
+    write_all(to, b", ");
+    print_decimal(to, pieces as u64);
+    write_all(to, b" pieces and ");
+    print_decimal(to, rows as u64);
+    write_all(to, b" merge rows, is ");
 }
 
 // Says what the check found, where that was asked for or is bad.
-pub(crate) fn model(fd: i32, job: Job, offsets: &[u32], left: &[u32], answer: Answer) {
+pub(crate) fn model(to: Stream, job: Job<'_>, offsets: &[u32], left: &[u32], answer: Answer) {
     let command = job.command;
     let name = job.name;
     if answer.number != 0 {
-        io::write_all(fd, b"not ok: ");
-        model_sizes(fd, name, string_count(offsets), left.len());
-        io::write_all(fd, b"refused: ");
-        tell::refusal(fd, answer.number, answer.place);
+        write_all(to, b"not ok: ");
+        model_sizes(to, name, string_count(offsets), left.len());
+        write_all(to, b"refused: ");
+        tell::refusal(to, answer.number, answer.place);
         return;
     }
     match command {
         Command::Show => {
-            model_sizes(fd, name, string_count(offsets), left.len());
-            io::write_all(fd, b"accepted\n\n");
+            model_sizes(to, name, string_count(offsets), left.len());
+            write_all(to, b"accepted\n\n");
         }
         Command::Check => {
-            model_sizes(fd, name, string_count(offsets), left.len());
-            io::write_all(fd, b"accepted (0)\n");
+            model_sizes(to, name, string_count(offsets), left.len());
+            write_all(to, b"accepted (0)\n");
         }
         _ => {}
     }
 }
 
 // What programs get of a line that is refused: an empty row, but by `check` its number and place.
-fn refused_row(job: Job, answer: Answer) -> bool {
+fn refused_row(job: Job<'_>, answer: Answer) -> bool {
     let command = job.command;
     if !job.bare {
         return true;
     }
     if let Command::Check = command {
-        return tell::checked(answer.number, answer.place, false);
+        return tell::checked(job.output, answer.number, answer.place, false);
     }
-    io::write_all(1, b"\n")
+    write_all(job.output, b"\n")
 }
 
-fn refused(job: Job, line: usize, answer: Answer) -> bool {
-    let fd = tell::remarks(job.bare);
-    tell::line_number(fd, line);
-    io::write_all(fd, b"refused: ");
-    tell::refusal(fd, answer.number, answer.place);
+fn refused(job: Job<'_>, line: usize, answer: Answer) -> bool {
+    let to = tell::remarks(job);
+    tell::line_number(to, line);
+    write_all(to, b"refused: ");
+    tell::refusal(to, answer.number, answer.place);
     refused_row(job, answer)
 }
 
-pub(crate) fn too_long(job: Job, line: usize) -> bool {
-    let fd = tell::remarks(job.bare);
-    tell::line_number(fd, line);
-    io::write_all(fd, b"refused: a line has at most ");
-    io::print_decimal(fd, LONGEST as u64);
-    io::write_all(fd, b" bytes: break it (1)\n");
+pub(crate) fn too_long(job: Job<'_>, line: usize) -> bool {
+    let to = tell::remarks(job);
+    tell::line_number(to, line);
+    write_all(to, b"refused: a line has at most ");
+    print_decimal(to, LONGEST as u64);
+    write_all(to, b" bytes: break it (1)\n");
     refused_row(job, Answer::refused(model::WRONG_SIZE, 0))
 }
 
 fn encoded(
-    job: Job,
+    job: Job<'_>,
     line: usize,
     text: &[u8],
     pieces: &[u8],
@@ -105,73 +106,73 @@ fn encoded(
     }
     if let Command::Encode = command {
         if job.bare {
-            return tell::numbers(ids);
+            return tell::numbers(job.output, ids);
         }
-        tell::text_line(line, text);
+        tell::text_line(job.output, line, text);
     }
-    io::write_all(1, b"  ids      ");
-    tell::ids_with_pieces(pieces, offsets, ids);
-    io::write_all(1, b"  dropped   ");
-    io::print_decimal(1, answer.drops as u64);
-    io::write_all(1, b" characters that the model has no piece for\n")
+    write_all(job.output, b"  ids      ");
+    tell::ids_with_pieces(job.output, pieces, offsets, ids);
+    write_all(job.output, b"  dropped   ");
+    print_decimal(job.output, answer.drops as u64);
+    write_all(job.output, b" characters that the model has no piece for\n")
 }
 
-fn cut(job: Job, line: usize, text: &[u8], answer: Answer, others: &[u32]) -> bool {
+fn cut(job: Job<'_>, line: usize, text: &[u8], answer: Answer, others: &[u32]) -> bool {
     let row = front(others, answer.written);
     if job.bare {
-        return tell::numbers(row);
+        return tell::numbers(job.output, row);
     }
-    tell::text_line(line, text);
-    io::write_all(1, b"  fragments");
-    tell::ranges(text, row)
+    tell::text_line(job.output, line, text);
+    write_all(job.output, b"  fragments");
+    tell::ranges(job.output, text, row)
 }
 
 // The text that ids gave: below its line where that is shown, compared with it by `check`, and else alone.
-fn decoded(job: Job, line: usize, text: &[u8], answer: Answer, back: &[u8]) -> bool {
+fn decoded(job: Job<'_>, line: usize, text: &[u8], answer: Answer, back: &[u8]) -> bool {
     let command = job.command;
     match command {
         Command::Show => {
-            io::write_all(1, b"  decoded   ");
-            io::write_all(1, back);
-            io::write_all(1, b"\n\n")
+            write_all(job.output, b"  decoded   ");
+            write_all(job.output, back);
+            write_all(job.output, b"\n\n")
         }
-        Command::Check => compared(job.bare, line, text, back),
-        _ => written(job.bare, line, answer, back),
+        Command::Check => compared(job, line, text, back),
+        _ => written(job, line, answer, back),
     }
 }
 
-fn compared(bare: bool, line: usize, text: &[u8], back: &[u8]) -> bool {
+fn compared(job: Job<'_>, line: usize, text: &[u8], back: &[u8]) -> bool {
     let same = equal(back, text);
     if !same {
-        changed(tell::remarks(bare), line, text, back);
+        changed(tell::remarks(job), line, text, back);
     }
-    if bare {
-        return tell::checked(0, 0, !same);
+    if job.bare {
+        return tell::checked(job.output, 0, 0, !same);
     }
     true
 }
 
-fn changed(fd: i32, line: usize, text: &[u8], back: &[u8]) {
-    tell::line_number(fd, line);
-    io::write_all(fd, b"changed\n  given      ");
-    io::write_all(fd, text);
-    io::write_all(fd, b"\n  comes back ");
-    io::write_all(fd, back);
-    io::write_all(fd, b"\n");
+fn changed(to: Stream, line: usize, text: &[u8], back: &[u8]) {
+    tell::line_number(to, line);
+    write_all(to, b"changed\n  given      ");
+    write_all(to, text);
+    write_all(to, b"\n  comes back ");
+    write_all(to, back);
+    write_all(to, b"\n");
 }
 
 // What decode or normalise wrote.
-fn written(bare: bool, line: usize, answer: Answer, text: &[u8]) -> bool {
-    if bare {
-        return tell::row_of_text(text);
+fn written(job: Job<'_>, line: usize, answer: Answer, text: &[u8]) -> bool {
+    if job.bare {
+        return tell::row_of_text(job.output, text);
     }
     if answer.skips == 0 {
-        return tell::text_line(line, text);
+        return tell::text_line(job.output, line, text);
     }
-    tell::text_line(line, text);
-    io::write_all(1, b"  skipped   ");
-    io::print_decimal(1, answer.skips as u64);
-    io::write_all(1, b" ids that the model has no piece for\n")
+    tell::text_line(job.output, line, text);
+    write_all(job.output, b"  skipped   ");
+    print_decimal(job.output, answer.skips as u64);
+    write_all(job.output, b" ids that the model has no piece for\n")
 }
 
 // Counts a line whose ids decode to something else.
@@ -187,7 +188,7 @@ fn with_way_back(command: Command, text: &[u8], back: &[u8], tally: Tally) -> Ta
 
 // Tells what the call of a state answered, and gives the state behind it.
 pub(crate) fn told(
-    job: Job,
+    job: Job<'_>,
     state: State,
     text: &[u8],
     pieces: &[u8],
@@ -224,18 +225,18 @@ pub(crate) fn told(
         }
         Call::Normalise => {
             let back = part(bytes, 0, answer.written);
-            let wrote = written(job.bare, line, answer, back);
+            let wrote = written(job, line, answer, back);
             after_call(job, state, answer, with_write(tally, wrote))
         }
     }
 }
 
-pub(crate) fn end(fd: i32, job: Job, state: State) {
+pub(crate) fn end(to: Stream, job: Job<'_>, state: State) {
     let command = job.command;
     let lines = state.lines;
     let tally = state.tally;
-    if tally::tell(fd, command, lines.failed, tally) {
+    if tally::tell(to, command, lines.failed, tally) {
         return;
     }
-    io::write_all(2, b"not ok: standard output did not take all\n");
+    write_all(job.errors, b"not ok: standard output did not take all\n");
 }

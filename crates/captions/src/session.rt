@@ -49,7 +49,7 @@ fn all_lines(
     metaspace: Metaspace,
     adjacency: &[u64],
     index: &[u32],
-    job: Job,
+    job: Job<'_>,
     input: &mut [u8],
     cells: &mut [u32],
     others: &mut [u32],
@@ -137,9 +137,9 @@ pub(crate) fn run(
     steps: [Step; 16],
     step_count: usize,
     metaspace: Metaspace,
-    job: Job,
+    job: Job<'_>,
 ) {
-    let fd = tell::remarks(job.bare);
+    let to = tell::remarks(job);
     let checked = model::check(
         pieces,
         offsets,
@@ -164,7 +164,7 @@ pub(crate) fn run(
         step_count,
         metaspace,
     );
-    report::model(fd, job, offsets, left, checked);
+    report::model(to, job, offsets, left, checked);
     if checked.number != 0 {
         return;
     }
@@ -235,7 +235,7 @@ pub(crate) fn run(
         &mut a,
         &mut b,
     );
-    report::end(fd, job, reached);
+    report::end(to, job, reached);
 }
 
 // A model without tokens and steps, whose metaspace is T's.
@@ -248,7 +248,7 @@ pub(crate) fn run_plain(
     right: &[u32],
     res: &[u32],
     rank: &[u32],
-    job: Job,
+    job: Job<'_>,
 ) {
     let no_offsets = [0u32];
     let no_ids = [0u32; 0];

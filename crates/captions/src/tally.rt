@@ -1,8 +1,9 @@
 // What came of the lines so far, and how far the work is.
 use crate::options::{Command, goes_back};
+use crate::output::{Stream, print_decimal, write_all};
 use model::Answer;
 
-#[derive(Drop)]
+#[derive(Clone, Copy)]
 pub(crate) struct Tally {
     pub lines: usize,
     pub bytes: usize,
@@ -38,16 +39,16 @@ fn plus(a: usize, b: usize) -> usize {
 }
 
 // Counts a line, and says on standard error when another MiB is done.
-pub(crate) fn with_line(tally: Tally, bytes: usize) -> Tally {
+pub(crate) fn with_line(errors: Stream, tally: Tally, bytes: usize) -> Tally {
     let mut after = tally;
     after.lines = plus(tally.lines, 1);
     after.bytes = plus(plus(tally.bytes, bytes), 1);
     if tally.bytes / MIB < after.bytes / MIB {
-        io::write_all(2, b"captions: ");
-        io::print_decimal(2, (after.bytes / MIB) as u64);
-        io::write_all(2, b" MiB done, ");
-        io::print_decimal(2, after.lines as u64);
-        io::write_all(2, b" lines\n");
+        write_all(errors, b"captions: ");
+        print_decimal(errors, (after.bytes / MIB) as u64);
+        write_all(errors, b" MiB done, ");
+        print_decimal(errors, after.lines as u64);
+        write_all(errors, b" lines\n");
     }
     after
 }
@@ -100,35 +101,35 @@ fn all_well(tally: Tally) -> bool {
     tally.changed == 0
 }
 
-fn verdict(fd: i32, failed: bool, tally: Tally) {
+fn verdict(to: Stream, failed: bool, tally: Tally) {
     if failed {
-        io::write_all(fd, b"not ok: reading failed, so that lines are missing: ");
+        write_all(to, b"not ok: reading failed, so that lines are missing: ");
         return;
     }
     if all_well(tally) {
-        io::write_all(fd, b"ok: ");
+        write_all(to, b"ok: ");
         return;
     }
-    io::write_all(fd, b"not ok: ");
+    write_all(to, b"not ok: ");
     if tally.unwritten {
-        io::write_all(fd, b"standard output did not take all: ");
+        write_all(to, b"standard output did not take all: ");
     }
 }
 
 // The last line of every run that has a model. Answers whether it was written.
-pub(crate) fn tell(fd: i32, command: Command, failed: bool, tally: Tally) -> bool {
-    verdict(fd, failed, tally);
-    io::write_all(fd, b"lines ");
-    io::print_decimal(fd, tally.lines as u64);
-    io::write_all(fd, b", refused ");
-    io::print_decimal(fd, tally.refused as u64);
-    io::write_all(fd, b", characters dropped ");
-    io::print_decimal(fd, tally.drops as u64);
-    io::write_all(fd, b", ids skipped ");
-    io::print_decimal(fd, tally.skips as u64);
+pub(crate) fn tell(to: Stream, command: Command, failed: bool, tally: Tally) -> bool {
+    verdict(to, failed, tally);
+    write_all(to, b"lines ");
+    print_decimal(to, tally.lines as u64);
+    write_all(to, b", refused ");
+    print_decimal(to, tally.refused as u64);
+    write_all(to, b", characters dropped ");
+    print_decimal(to, tally.drops as u64);
+    write_all(to, b", ids skipped ");
+    print_decimal(to, tally.skips as u64);
     if goes_back(command) {
-        io::write_all(fd, b", lines changed on the way back ");
-        io::print_decimal(fd, tally.changed as u64);
+        write_all(to, b", lines changed on the way back ");
+        print_decimal(to, tally.changed as u64);
     }
-    io::write_all(fd, b"\n")
+    write_all(to, b"\n")
 }

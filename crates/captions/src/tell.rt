@@ -1,200 +1,202 @@
 // What is written of a line and its answers.
 use crate::ids::NO_IDS;
+use crate::job::Job;
+use crate::output::{Stream, print_decimal, print_hex, write_all};
 use crate::slices::byte_at;
 use model::tables::{number_at, string_at, wide};
 
 // Results for programs stand alone on standard output, so remarks go to standard error beside them.
-pub(crate) fn remarks(bare: bool) -> i32 {
-    if bare { 2 } else { 1 }
+pub(crate) fn remarks(job: Job<'_>) -> Stream {
+    if job.bare { job.errors } else { job.output }
 }
 
-pub(crate) fn line_number(fd: i32, line: usize) {
-    io::write_all(fd, b"line ");
-    io::print_decimal(fd, line as u64);
-    io::write_all(fd, b": ");
+pub(crate) fn line_number(to: Stream, line: usize) {
+    write_all(to, b"line ");
+    print_decimal(to, line as u64);
+    write_all(to, b": ");
 }
 
 // Each function that writes a line answers whether it was written.
-pub(crate) fn text_line(line: usize, text: &[u8]) -> bool {
-    line_number(1, line);
-    row_of_text(text)
+pub(crate) fn text_line(to: Stream, line: usize, text: &[u8]) -> bool {
+    line_number(to, line);
+    row_of_text(to, text)
 }
 
-pub(crate) fn row_of_text(text: &[u8]) -> bool {
-    io::write_all(1, text);
-    io::write_all(1, b"\n")
+pub(crate) fn row_of_text(to: Stream, text: &[u8]) -> bool {
+    write_all(to, text);
+    write_all(to, b"\n")
 }
 
 // A refusal in words, with its place where it has one, and its number.
-pub(crate) fn refusal(fd: i32, number: u32, place: usize) {
+pub(crate) fn refusal(to: Stream, number: u32, place: usize) {
     if number == model::BAD_TEXT {
-        io::write_all(fd, b"the text is not valid UTF-8");
-        from_byte(fd, place);
+        write_all(to, b"the text is not valid UTF-8");
+        from_byte(to, place);
     } else if number == NO_IDS {
-        io::write_all(
-            fd,
+        write_all(
+            to,
             b"the line is not a row of ids, numbers up to 4294967295 and spaces,",
         );
-        from_byte(fd, place);
+        from_byte(to, place);
     } else {
-        reason(fd, number);
+        reason(to, number);
     }
-    io::write_all(fd, b" (");
-    io::print_decimal(fd, number as u64);
-    io::write_all(fd, b")\n");
+    write_all(to, b" (");
+    print_decimal(to, number as u64);
+    write_all(to, b")\n");
 }
 
-fn from_byte(fd: i32, place: usize) {
-    io::write_all(fd, b" from byte ");
-    io::print_decimal(fd, place as u64);
-    io::write_all(fd, b" on");
+fn from_byte(to: Stream, place: usize) {
+    write_all(to, b" from byte ");
+    print_decimal(to, place as u64);
+    write_all(to, b" on");
 }
 
-fn reason(fd: i32, number: u32) {
+fn reason(to: Stream, number: u32) {
     if number == model::WRONG_SIZE {
-        io::write_all(
-            fd,
+        write_all(
+            to,
             b"something is longer than its limit, or columns of a table differ in length",
         );
         return;
     }
     if number == model::OFFSETS_ASTRAY {
-        io::write_all(fd, b"the model's offsets do not fit its bytes");
+        write_all(to, b"the model's offsets do not fit its bytes");
         return;
     }
     if number == model::BAD_PIECE {
-        io::write_all(
-            fd,
+        write_all(
+            to,
             b"a piece of the model is neither valid UTF-8 nor a single byte",
         );
         return;
     }
     if number == model::BAD_LOOKUP {
-        io::write_all(
-            fd,
+        write_all(
+            to,
             b"the model's lookup list is not in byte order, or misses a piece",
         );
         return;
     }
     if number == model::BAD_FALLBACK {
-        io::write_all(
-            fd,
+        write_all(
+            to,
             b"a fallback id of the model is not the piece of its byte",
         );
         return;
     }
     if number == model::BAD_ROW {
-        io::write_all(
-            fd,
+        write_all(
+            to,
             b"a merge row of the model is out of order, or does not join its sides",
         );
         return;
     }
     if number == model::BAD_TOKEN {
-        io::write_all(fd, b"a token of the model is empty or not valid UTF-8");
+        write_all(to, b"a token of the model is empty or not valid UTF-8");
         return;
     }
     if number == model::BAD_STEP {
-        io::write_all(fd, b"a string of the model's steps is not valid UTF-8");
+        write_all(to, b"a string of the model's steps is not valid UTF-8");
         return;
     }
     if number == model::NO_RAW_PATH {
-        io::write_all(fd, b"the model has no raw path, which fragments need");
+        write_all(to, b"the model has no raw path, which fragments need");
         return;
     }
     if number == model::SCRATCH_TOO_SHORT {
-        io::write_all(
-            fd,
+        write_all(
+            to,
             b"a step makes the line longer than captions has room for: break it",
         );
         return;
     }
-    io::write_all(
-        fd,
+    write_all(
+        to,
         b"the result is longer than captions has room for: break the line",
     );
 }
 
 // A byte that is no character alone, or that moves the cursor, is written as its number.
-fn piece(text: &[u8]) {
+fn piece(to: Stream, text: &[u8]) {
     if text.len() == 1 {
         let byte = byte_at(text, 0);
         if byte < 33 {
-            return byte_number(byte);
+            return byte_number(to, byte);
         }
         if 126 < byte {
-            return byte_number(byte);
+            return byte_number(to, byte);
         }
     }
-    io::write_all(1, text);
+    write_all(to, text);
 }
 
-fn byte_number(byte: u8) {
-    io::write_all(1, b"<");
-    io::print_hex(1, byte as u64, 2);
-    io::write_all(1, b">");
+fn byte_number(to: Stream, byte: u8) {
+    write_all(to, b"<");
+    print_hex(to, byte);
+    write_all(to, b">");
 }
 
-fn id_with_piece(pieces: &[u8], offsets: &[u32], id: u32) {
-    io::write_all(1, b" ");
-    io::print_decimal(1, id as u64);
-    io::write_all(1, b":");
-    piece(string_at(pieces, offsets, wide(id)));
+fn id_with_piece(to: Stream, pieces: &[u8], offsets: &[u32], id: u32) {
+    write_all(to, b" ");
+    print_decimal(to, id as u64);
+    write_all(to, b":");
+    piece(to, string_at(pieces, offsets, wide(id)));
 }
 
-pub(crate) fn ids_with_pieces(pieces: &[u8], offsets: &[u32], ids: &[u32]) -> bool {
+pub(crate) fn ids_with_pieces(to: Stream, pieces: &[u8], offsets: &[u32], ids: &[u32]) -> bool {
     let mut i = 0;
     while i < ids.len() {
-        id_with_piece(pieces, offsets, number_at(ids, i));
+        id_with_piece(to, pieces, offsets, number_at(ids, i));
         i += 1;
     }
-    io::write_all(1, b"\n")
+    write_all(to, b"\n")
 }
 
 // Numbers as programs read them, parted by single spaces.
-fn number_after(before: usize, number: u32) {
+fn number_after(to: Stream, before: usize, number: u32) {
     if 0 < before {
-        io::write_all(1, b" ");
+        write_all(to, b" ");
     }
-    io::print_decimal(1, number as u64);
+    print_decimal(to, number as u64);
 }
 
-pub(crate) fn numbers(row: &[u32]) -> bool {
+pub(crate) fn numbers(to: Stream, row: &[u32]) -> bool {
     let mut i = 0;
     while i < row.len() {
-        number_after(i, number_at(row, i));
+        number_after(to, i, number_at(row, i));
         i += 1;
     }
-    io::write_all(1, b"\n")
+    write_all(to, b"\n")
 }
 
 // What programs get of a line by `check`: the number of its refusal, the place, and whether it comes back as another.
-pub(crate) fn checked(number: u32, place: usize, changed: bool) -> bool {
-    io::print_decimal(1, number as u64);
-    io::write_all(1, b" ");
-    io::print_decimal(1, place as u64);
+pub(crate) fn checked(to: Stream, number: u32, place: usize, changed: bool) -> bool {
+    print_decimal(to, number as u64);
+    write_all(to, b" ");
+    print_decimal(to, place as u64);
     if changed {
-        return io::write_all(1, b" 1\n");
+        return write_all(to, b" 1\n");
     }
-    io::write_all(1, b" 0\n")
+    write_all(to, b" 0\n")
 }
 
-fn range(text: &[u8], from: u32, to: u32) {
-    io::write_all(1, b" ");
-    io::print_decimal(1, from as u64);
-    io::write_all(1, b"..");
-    io::print_decimal(1, to as u64);
-    io::write_all(1, b" '");
-    io::write_all(1, model::tables::part(text, wide(from), wide(to)));
-    io::write_all(1, b"'");
+fn range(output: Stream, text: &[u8], from: u32, to: u32) {
+    write_all(output, b" ");
+    print_decimal(output, from as u64);
+    write_all(output, b"..");
+    print_decimal(output, to as u64);
+    write_all(output, b" '");
+    write_all(output, model::tables::part(text, wide(from), wide(to)));
+    write_all(output, b"'");
 }
 
 // Pairs of numbers as ranges of the text.
-pub(crate) fn ranges(text: &[u8], row: &[u32]) -> bool {
+pub(crate) fn ranges(to: Stream, text: &[u8], row: &[u32]) -> bool {
     let mut i = 0;
     while i < row.len() / 2 {
-        range(text, number_at(row, 2 * i), number_at(row, 2 * i + 1));
+        range(to, text, number_at(row, 2 * i), number_at(row, 2 * i + 1));
         i += 1;
     }
-    io::write_all(1, b"\n")
+    write_all(to, b"\n")
 }

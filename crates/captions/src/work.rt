@@ -8,7 +8,7 @@ use crate::{report, tally};
 use model::Answer;
 use model::tables::part;
 
-#[derive(Drop)]
+#[derive(Clone, Copy)]
 pub(crate) struct State {
     pub lines: Lines,
     // Where the line stands in the input.
@@ -75,7 +75,7 @@ fn next_call(command: Command, call: Call) -> Call {
 }
 
 // What a call answered, counted; a refusal ends the work on the line.
-pub(crate) fn after_call(job: Job, state: State, answer: Answer, tally: Tally) -> State {
+pub(crate) fn after_call(job: Job<'_>, state: State, answer: Answer, tally: Tally) -> State {
     let lines = state.lines;
     let command = job.command;
     let call = state.call;
@@ -121,7 +121,7 @@ fn without_line(lines: Lines, tally: Tally, over: bool) -> State {
 }
 
 // Goes on to the next line once the last call is made.
-pub(crate) fn moved_on(job: Job, input: &mut [u8], state: State) -> State {
+pub(crate) fn moved_on(job: Job<'_>, input: &mut [u8], state: State) -> State {
     let call = state.call;
     let lines = state.lines;
     let before = state.tally;
@@ -129,14 +129,14 @@ pub(crate) fn moved_on(job: Job, input: &mut [u8], state: State) -> State {
     let Call::Nothing = call else {
         return state;
     };
-    let line = next_line(job.fd, input, lines);
+    let line = next_line(job, input, lines);
     let next = line.next;
     let kind = line.kind;
     match kind {
         Kind::End => without_line(next, before, true),
         Kind::More => without_line(next, before, false),
         Kind::TooLong => {
-            let counted = with_line(before, input.len());
+            let counted = with_line(job.errors, before, input.len());
             let wrote = report::too_long(job, counted.lines);
             without_line(next, with_write(with_refusal(counted), wrote), false)
         }
@@ -144,7 +144,13 @@ pub(crate) fn moved_on(job: Job, input: &mut [u8], state: State) -> State {
             let from = line.from;
             let to = line.to;
             let text = part(input, from, to);
-            at_line(command, next, from, to, with_line(before, text.len()))
+            at_line(
+                command,
+                next,
+                from,
+                to,
+                with_line(job.errors, before, text.len()),
+            )
         }
     }
 }

@@ -10,7 +10,7 @@ pub(crate) const DECODE: u32 = 3;
 pub(crate) const NORMALISE: u32 = 4;
 
 // What a call is given besides the model and its input: encode's `continuation` or normalise's `first`, and fragments' target.
-#[derive(Drop)]
+#[derive(Clone, Copy)]
 pub(crate) struct Given {
     pub flag: bool,
     pub target: usize,

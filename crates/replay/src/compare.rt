@@ -5,7 +5,7 @@ use crate::sample::{as_place, byte_at, number_at, place_at};
 use model::Answer;
 
 // What differs.
-#[derive(Drop)]
+#[derive(Clone, Copy)]
 pub(crate) enum Part {
     Nothing,
     Number,
@@ -21,7 +21,7 @@ pub(crate) enum Part {
     Call,
 }
 
-#[derive(Drop)]
+#[derive(Clone, Copy)]
 pub(crate) struct Difference {
     pub part: Part,
     // Which cell, where the part is a buffer.

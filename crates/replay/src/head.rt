@@ -3,6 +3,7 @@ use crate::sample::{
     as_place, bytes_between, numbers_between, sum_of, unpack, unpack_flags, word_at,
 };
 use crate::{report, rows};
+use std::io;
 
 // Where the head has the sample's length, the sum over all that follows the sum, the count of rows, where the sample's bytes and its
 // flags end, and the count of its numbers.
@@ -48,58 +49,60 @@ fn number_bytes(input: &[u8]) -> &[u8] {
 }
 
 // Whether there is a whole sample; if not, says why.
-fn is_whole(input: &[u8], number_room: usize, flag_room: usize) -> bool {
+fn is_whole(
+    rt: &impl Print,
+    input: &[u8],
+    number_room: usize,
+    flag_room: usize,
+) -> io::Result<bool> {
     if !is_named(input) {
-        io::write_all(1, b"this is no sample: it does not begin with its name\n");
-        return false;
+        rt.write_all(b"this is no sample: it does not begin with its name\n")?;
+        return Ok(false);
     }
     if input.len() != place(input, LENGTH) {
-        io::write_all(
-            1,
-            b"the sample is cut off, or too long: it has not the length that it says\n",
-        );
-        return false;
+        rt.write_all(b"the sample is cut off, or too long: it has not the length that it says\n")?;
+        return Ok(false);
     }
     if number_room < place(input, NUMBERS) {
-        io::write_all(1, b"the sample has too many numbers\n");
-        return false;
+        rt.write_all(b"the sample has too many numbers\n")?;
+        return Ok(false);
     }
     if place(input, NUMBERS) / rows::ROW < place(input, ROWS) {
-        io::write_all(1, b"the sample has not the numbers for its rows\n");
-        return false;
+        rt.write_all(b"the sample has not the numbers for its rows\n")?;
+        return Ok(false);
     }
     let flags = flag_bytes(input);
     if flag_room < flags.len() {
-        io::write_all(1, b"the sample has too many flags\n");
-        return false;
+        rt.write_all(b"the sample has too many flags\n")?;
+        return Ok(false);
     }
-    true
+    Ok(true)
 }
 
-pub(crate) fn replay(input: &[u8], numbers: &mut [u32], flags: &mut [bool]) {
-    if !is_whole(input, numbers.len(), flags.len()) {
-        return;
+pub(crate) fn replay(
+    rt: &impl Print,
+    input: &[u8],
+    numbers: &mut [u32],
+    flags: &mut [bool],
+) -> io::Result<()> {
+    if !is_whole(rt, input, numbers.len(), flags.len())? {
+        return Ok(());
     }
     if sum_of(bytes_between(input, ROWS, input.len())) != word_at(input, SUM) {
-        io::write_all(
-            1,
-            b"the sample was changed: it has not the sum that it says\n",
-        );
+        rt.write_all(b"the sample was changed: it has not the sum that it says\n")?;
     }
     let packed = number_bytes(input);
     let count = place(input, NUMBERS);
     if unpack(packed, numbers, count) != packed.len() {
-        io::write_all(
-            1,
-            b"the sample was changed: its numbers do not end where it does\n",
-        );
+        rt.write_all(b"the sample was changed: its numbers do not end where it does\n")?;
     }
     unpack_flags(flag_bytes(input), flags);
     let tally = rows::replay_rows(
+        rt,
         bytes_between(input, HEAD, place(input, BYTES_END)),
         numbers_between(numbers, 0, count),
         flags,
         place(input, ROWS),
-    );
-    report::tell(tally);
+    )?;
+    report::tell(rt, tally)
 }

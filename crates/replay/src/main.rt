@@ -20,7 +20,10 @@ mod report;
 mod rows;
 mod sample;
 
-ghost use Rattle.std.specs.Prelude.{◌≡◌, length};
+ghost use Rattle.std.specs.Prelude.{◌≡◌, ◌≤◌, length, IfOk};
+
+use std::io;
+use std::io::Read;
 
 // The longest sample, in bytes, numbers and flags.
 fn input_buffer() -> [u8; 524288]
@@ -41,10 +44,25 @@ fn flag_buffer() -> [bool; 65536]
     [false; 65536]
 }
 
-fn main() {
+// Reads until `buffer` is full or there is no more, and answers how many bytes stand in it.
+fn read_full(from: &mut impl Read, buffer: &mut [u8]) -> io::Result<usize>
+    ensures { IfOk result (λ n. n ≤ length buffer.new) }
+{
+    let mut done = 0;
+    while done < buffer.len() {
+        let more = from.read(&mut buffer[done..])?;
+        if more == 0 {
+            break;
+        }
+        done += more;
+    }
+    Ok(done)
+}
+
+fn main(rt: HostRuntime) -> io::Result<()> {
     let mut input = input_buffer();
     let mut numbers = number_buffer();
     let mut flags = flag_buffer();
-    let size = io::read_full(0, &mut input);
-    head::replay(&input[..size], &mut numbers, &mut flags);
+    let size = read_full(&mut rt.stdin(), &mut input)?;
+    head::replay(&rt, &input[..size], &mut numbers, &mut flags)
 }

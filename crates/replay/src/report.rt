@@ -3,9 +3,10 @@ ghost use Rattle.std.specs.Prelude.{◌<◌};
 
 use crate::calls;
 use crate::compare::{Difference, Part};
+use std::io;
 
 // How many cases agreed, by their call, and how many did not.
-#[derive(Drop)]
+#[derive(Clone, Copy)]
 pub(crate) struct Tally {
     pub encode: u32,
     pub fragments: u32,
@@ -70,95 +71,86 @@ pub(crate) fn cases(tally: Tally) -> u64 {
     agreed(tally) + wide_count(tally.differ)
 }
 
-fn tell_number(number: usize) {
-    io::print_decimal(1, number as u64);
+fn tell_number(rt: &impl Print, number: usize) -> io::Result<()> {
+    rt.print(number)
 }
 
-fn tell_call(call: u32) {
+fn tell_call(rt: &impl Print, call: u32) -> io::Result<()> {
     if call == calls::ENCODE {
-        io::write_all(1, b"encode");
+        rt.write_all(b"encode")
     } else if call == calls::FRAGMENTS {
-        io::write_all(1, b"fragments");
+        rt.write_all(b"fragments")
     } else if call == calls::DECODE {
-        io::write_all(1, b"decode");
+        rt.write_all(b"decode")
     } else if call == calls::NORMALISE {
-        io::write_all(1, b"normalise");
+        rt.write_all(b"normalise")
     } else {
-        io::write_all(1, b"no call");
+        rt.write_all(b"no call")
     }
 }
 
-fn tell_part(part: Part, at: usize) {
+fn tell_part(rt: &impl Print, part: Part, at: usize) -> io::Result<()> {
     match part {
-        Part::Nothing => {}
-        Part::Number => {
-            io::write_all(1, b"the answer's number");
-        }
-        Part::Place => {
-            io::write_all(1, b"the answer's place");
-        }
-        Part::Written => {
-            io::write_all(1, b"the answer's written");
-        }
-        Part::Drops => {
-            io::write_all(1, b"the answer's drops");
-        }
-        Part::Skips => {
-            io::write_all(1, b"the answer's skips");
-        }
+        Part::Nothing => Ok(()),
+        Part::Number => rt.write_all(b"the answer's number"),
+        Part::Place => rt.write_all(b"the answer's place"),
+        Part::Written => rt.write_all(b"the answer's written"),
+        Part::Drops => rt.write_all(b"the answer's drops"),
+        Part::Skips => rt.write_all(b"the answer's skips"),
         Part::Result => {
-            io::write_all(1, b"the result at ");
-            tell_number(at);
+            rt.write_all(b"the result at ")?;
+            tell_number(rt, at)
         }
         Part::FirstScratch => {
-            io::write_all(1, b"the first scratch at ");
-            tell_number(at);
+            rt.write_all(b"the first scratch at ")?;
+            tell_number(rt, at)
         }
         Part::SecondScratch => {
-            io::write_all(1, b"the second scratch at ");
-            tell_number(at);
+            rt.write_all(b"the second scratch at ")?;
+            tell_number(rt, at)
         }
-        Part::Room => {
-            io::write_all(1, b"the longest buffer");
-        }
-        Part::Call => {
-            io::write_all(1, b"the last call's number");
-        }
+        Part::Room => rt.write_all(b"the longest buffer"),
+        Part::Call => rt.write_all(b"the last call's number"),
     }
 }
 
 // The first case that differs, the `case`-th of the sample.
-pub(crate) fn tell_difference(case: u64, call: u32, difference: Difference) {
+pub(crate) fn tell_difference(
+    rt: &impl Print,
+    case: u64,
+    call: u32,
+    difference: Difference,
+) -> io::Result<()> {
     let part = difference.part;
-    io::write_all(1, b"case ");
-    io::print_decimal(1, case);
-    io::write_all(1, b", ");
-    tell_call(call);
-    io::write_all(1, b": ");
-    tell_part(part, difference.at);
-    io::write_all(1, b" is ");
-    tell_number(difference.found);
-    io::write_all(1, b", in the sample ");
-    tell_number(difference.expected);
-    io::write_all(1, b"\n");
+    rt.write_all(b"case ")?;
+    rt.print(case)?;
+    rt.write_all(b", ")?;
+    tell_call(rt, call)?;
+    rt.write_all(b": ")?;
+    tell_part(rt, part, difference.at)?;
+    rt.write_all(b" is ")?;
+    tell_number(rt, difference.found)?;
+    rt.write_all(b", in the sample ")?;
+    tell_number(rt, difference.expected)?;
+    rt.write_all(b"\n")
 }
 
-fn tell_agreed(call: u32, count: u32) {
-    tell_call(call);
-    io::write_all(1, b": ");
-    io::print_decimal(1, wide_count(count));
-    io::write_all(1, b" agree\n");
+fn tell_agreed(rt: &impl Print, call: u32, count: u32) -> io::Result<()> {
+    tell_call(rt, call)?;
+    rt.write_all(b": ")?;
+    rt.print(wide_count(count))?;
+    rt.write_all(b" agree\n")
 }
 
-pub(crate) fn tell(tally: Tally) {
-    tell_agreed(calls::ENCODE, tally.encode);
-    tell_agreed(calls::FRAGMENTS, tally.fragments);
-    tell_agreed(calls::DECODE, tally.decode);
-    tell_agreed(calls::NORMALISE, tally.normalise);
-    io::print_decimal(1, cases(tally));
-    io::write_all(1, b" cases: ");
-    io::print_decimal(1, agreed(tally));
-    io::write_all(1, b" agree, ");
-    io::print_decimal(1, wide_count(tally.differ));
-    io::write_all(1, b" differ\n");
+pub(crate) fn tell(rt: &impl Print, tally: Tally) -> io::Result<()> {
+    tell_agreed(rt, calls::ENCODE, tally.encode)?;
+    tell_agreed(rt, calls::FRAGMENTS, tally.fragments)?;
+    tell_agreed(rt, calls::DECODE, tally.decode)?;
+    tell_agreed(rt, calls::NORMALISE, tally.normalise)?;
+    rt.print(cases(tally))?;
+    rt.write_all(b" cases: ")?;
+    rt.print(agreed(tally))?;
+    rt.write_all(b" agree, ")?;
+    rt.print(wide_count(tally.differ))?;
+    rt.write_all(b" differ\n")
 }

@@ -6,7 +6,7 @@ ghost use Rattle.std.specs.Prelude.{◌<◌};
 const IN_FULL: u32 = 255;
 
 // A number of the sample, and where the next one begins.
-#[derive(Drop)]
+#[derive(Clone, Copy)]
 struct Packed {
     value: u32,
     next: usize,

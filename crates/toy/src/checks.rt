@@ -5,16 +5,18 @@ use crate::tables::{
     TOKEN, t_fallback, t_lookup, t_offsets, t_pieces, t_result, t_step,
 };
 use model::{Metaspace, PrependScheme, Step};
+use std::io;
 
-fn tell(name: &[u8], number: u32) {
-    io::write_all(1, name);
-    io::write_all(1, b": ");
-    io::print_decimal(1, number as u64);
-    io::write_all(1, b"\n");
+fn tell(rt: &impl Print, name: &[u8], number: u32) -> io::Result<()> {
+    rt.write_all(name)?;
+    rt.write_all(b": ")?;
+    rt.print(number)?;
+    rt.write_all(b"\n")
 }
 
 // Checks a model with metaspace Always that does not split, one token in its first list and none in its second, and one step.
 fn check_and_tell(
+    rt: &impl Print,
     name: &[u8],
     pieces: &[u8],
     offsets: &[u32],
@@ -26,7 +28,7 @@ fn check_and_tell(
     rank: &[u32],
     token: &[u8],
     step: Step,
-) {
+) -> io::Result<()> {
     let token_offsets = [0, (token.len() % 256) as u32];
     let ids = [50u32];
     let flags = [false];
@@ -53,7 +55,7 @@ fn check_and_tell(
         &no_ids,
         &no_flags,
         &no_flags,
-        b"\x_c3\x_a9",
+        b"\xC3\xA9",
         steps,
         1,
         Metaspace::Present {
@@ -61,11 +63,11 @@ fn check_and_tell(
             split: false,
         },
     );
-    tell(name, answer.number);
+    tell(rt, name, answer.number)
 }
 
 // T with a token in its first list, and broken where `fault` says.
-fn check_t(name: &[u8], fault: u32, token: &[u8]) {
+fn check_t(rt: &impl Print, name: &[u8], fault: u32, token: &[u8]) -> io::Result<()> {
     let pieces = t_pieces(fault);
     let offsets = t_offsets(fault);
     let lookup = t_lookup(fault);
@@ -75,6 +77,7 @@ fn check_t(name: &[u8], fault: u32, token: &[u8]) {
     let result = t_result(fault);
     let rank = RANK_T;
     check_and_tell(
+        rt,
         name,
         &pieces,
         &offsets,
@@ -86,10 +89,10 @@ fn check_t(name: &[u8], fault: u32, token: &[u8]) {
         &rank,
         token,
         t_step(fault),
-    );
+    )
 }
 
-fn check_u() {
+fn check_u(rt: &impl Print) -> io::Result<()> {
     let pieces = PIECES_U;
     let offsets = OFFSETS_U;
     let lookup = LOOKUP_U;
@@ -100,6 +103,7 @@ fn check_u() {
     let rank = RANK_U;
     let token = TOKEN;
     check_and_tell(
+        rt,
         b"U",
         &pieces,
         &offsets,
@@ -111,35 +115,49 @@ fn check_u() {
         &rank,
         &token,
         t_step(0),
-    );
+    )
 }
 
-pub(crate) fn run() {
-    check_t(b"T", 0, b"<n>");
-    check_u();
-    check_t(b"T, but a piece of 287 bytes", model::WRONG_SIZE, b"<n>");
+pub(crate) fn run(rt: &impl Print) -> io::Result<()> {
+    check_t(rt, b"T", 0, b"<n>")?;
+    check_u(rt)?;
     check_t(
+        rt,
+        b"T, but a piece of 287 bytes",
+        model::WRONG_SIZE,
+        b"<n>",
+    )?;
+    check_t(
+        rt,
         b"T, but an offset past the end",
         model::OFFSETS_ASTRAY,
         b"<n>",
-    );
-    check_t(b"T, but the mark is cut short", model::BAD_PIECE, b"<n>");
+    )?;
     check_t(
+        rt,
+        b"T, but the mark is cut short",
+        model::BAD_PIECE,
+        b"<n>",
+    )?;
+    check_t(
+        rt,
         b"T, but two lookup entries change places",
         model::BAD_LOOKUP,
         b"<n>",
-    );
+    )?;
     check_t(
+        rt,
         b"T, but A9 falls back to the piece C3",
         model::BAD_FALLBACK,
         b"<n>",
-    );
-    check_t(b"T, but the first row gives ab", model::BAD_ROW, b"<n>");
-    check_t(b"T, but the token is no text", 0, b"<\xf_f>");
-    check_t(b"T, but the token is empty", 0, b"");
+    )?;
+    check_t(rt, b"T, but the first row gives ab", model::BAD_ROW, b"<n>")?;
+    check_t(rt, b"T, but the token is no text", 0, b"<\xFF>")?;
+    check_t(rt, b"T, but the token is empty", 0, b"")?;
     check_t(
+        rt,
         b"T, but the step string is half a letter",
         model::BAD_STEP,
         b"<n>",
-    );
+    )
 }

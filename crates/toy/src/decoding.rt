@@ -4,6 +4,7 @@
 use crate::normalising::tell_bytes;
 use crate::tables::{LEFT_T, RANK_T, RIGHT_T, t_fallback, t_lookup, t_offsets, t_pieces, t_result};
 use model::{Metaspace, PrependScheme, Step};
+use std::io;
 
 // What stands in the result buffer before a call.
 const BEFORE: u8 = 0xEE;
@@ -14,20 +15,28 @@ const ROOM: usize = 12;
 // The pieces of the other model, in the order of their bytes: 'a', and bytes that are no character alone.
 const BYTES: [u8; 10] = [0x61, 0x80, 0x81, 0x90, 0x96, 0xA0, 0xC0, 0xE2, 0xED, 0xF4];
 
-fn tell(name: &[u8], number: u32, written: usize, skips: usize, out: &[u8]) {
-    io::write_all(1, name);
-    io::write_all(1, b": ");
-    io::print_decimal(1, number as u64);
-    io::write_all(1, b", written ");
-    io::print_decimal(1, written as u64);
-    io::write_all(1, b", skips ");
-    io::print_decimal(1, skips as u64);
-    io::write_all(1, b", result");
-    tell_bytes(out);
-    io::write_all(1, b"\n");
+fn tell(
+    rt: &impl Print,
+    name: &[u8],
+    number: u32,
+    written: usize,
+    skips: usize,
+    out: &[u8],
+) -> io::Result<()> {
+    rt.write_all(name)?;
+    rt.write_all(b": ")?;
+    rt.print(number)?;
+    rt.write_all(b", written ")?;
+    rt.print(written)?;
+    rt.write_all(b", skips ")?;
+    rt.print(skips)?;
+    rt.write_all(b", result")?;
+    tell_bytes(rt, out)?;
+    rt.write_all(b"\n")
 }
 
 fn decode_and_tell(
+    rt: &impl Print,
     name: &[u8],
     pieces: &[u8],
     offsets: &[u32],
@@ -40,7 +49,7 @@ fn decode_and_tell(
     metaspace: Metaspace,
     ids: &[u32],
     out: &mut [u8],
-) {
+) -> io::Result<()> {
     let no_offsets = [0u32];
     let no_ids = [0u32; 0];
     let no_flags = [false; 0];
@@ -73,12 +82,12 @@ fn decode_and_tell(
         ids,
         out,
     );
-    tell(name, answer.number, answer.written, answer.skips, out);
+    tell(rt, name, answer.number, answer.written, answer.skips, out)
 }
 
-fn t(name: &[u8], ids: &[u32], room: usize) {
+fn t(rt: &impl Print, name: &[u8], ids: &[u32], room: usize) -> io::Result<()> {
     if ROOM < room {
-        return;
+        return Ok(());
     }
     let pieces = t_pieces(0);
     let offsets = t_offsets(0);
@@ -90,6 +99,7 @@ fn t(name: &[u8], ids: &[u32], room: usize) {
     let rank = RANK_T;
     let mut out = [BEFORE; ROOM];
     decode_and_tell(
+        rt,
         name,
         &pieces,
         &offsets,
@@ -105,11 +115,11 @@ fn t(name: &[u8], ids: &[u32], room: usize) {
         },
         ids,
         &mut out[..room],
-    );
+    )
 }
 
 // A model without metaspace, so that no space goes.
-fn single_bytes(name: &[u8], ids: &[u32]) {
+fn single_bytes(rt: &impl Print, name: &[u8], ids: &[u32]) -> io::Result<()> {
     let pieces = BYTES;
     let offsets = [0u32, 1, 2, 3, 4, 5, 6, 7, 8, 9, 10];
     let lookup = [0u32, 1, 2, 3, 4, 5, 6, 7, 8, 9];
@@ -117,6 +127,7 @@ fn single_bytes(name: &[u8], ids: &[u32]) {
     let no_rows = [0u32; 0];
     let mut out = [BEFORE; ROOM];
     decode_and_tell(
+        rt,
         name,
         &pieces,
         &offsets,
@@ -129,25 +140,26 @@ fn single_bytes(name: &[u8], ids: &[u32]) {
         Metaspace::Absent,
         ids,
         &mut out,
-    );
+    )
 }
 
-pub(crate) fn run() {
-    t(b"T: decode 4", &[4], 2);
-    t(b"T: decode 0 99 1", &[0, 99, 1], 2);
-    t(b"T: decode 0 0 1", &[0, 0, 1], 3);
-    t(b"T: decode no ids", &[0u32; 0], 2);
-    t(b"T: decode 4 4", &[4, 4], 2);
-    t(b"T: decode 4 4", &[4, 4], 3);
-    t(b"T: decode 4 6", &[4, 6], 6);
-    t(b"T: decode 4 6 7", &[4, 6, 7], 6);
-    single_bytes(b"E2 96", &[7, 4]);
-    single_bytes(b"E2 96 and a letter", &[7, 4, 0]);
-    single_bytes(b"C0 80", &[6, 1]);
-    single_bytes(b"a surrogate, ED A0 80", &[8, 5, 1]);
-    single_bytes(b"F4 90 80 80", &[9, 3, 1, 1]);
+pub(crate) fn run(rt: &impl Print) -> io::Result<()> {
+    t(rt, b"T: decode 4", &[4], 2)?;
+    t(rt, b"T: decode 0 99 1", &[0, 99, 1], 2)?;
+    t(rt, b"T: decode 0 0 1", &[0, 0, 1], 3)?;
+    t(rt, b"T: decode no ids", &[0u32; 0], 2)?;
+    t(rt, b"T: decode 4 4", &[4, 4], 2)?;
+    t(rt, b"T: decode 4 4", &[4, 4], 3)?;
+    t(rt, b"T: decode 4 6", &[4, 6], 6)?;
+    t(rt, b"T: decode 4 6 7", &[4, 6, 7], 6)?;
+    single_bytes(rt, b"E2 96", &[7, 4])?;
+    single_bytes(rt, b"E2 96 and a letter", &[7, 4, 0])?;
+    single_bytes(rt, b"C0 80", &[6, 1])?;
+    single_bytes(rt, b"a surrogate, ED A0 80", &[8, 5, 1])?;
+    single_bytes(rt, b"F4 90 80 80", &[9, 3, 1, 1])?;
     single_bytes(
+        rt,
         b"a mark, an id without a piece between its bytes, and a letter",
         &[7, 4, 99, 2, 0],
-    );
+    )
 }

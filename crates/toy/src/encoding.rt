@@ -6,6 +6,7 @@ use crate::tables::{
     crossed_pieces, t_fallback, t_lookup, t_result,
 };
 use model::{Answer, Metaspace, PrependScheme, Span, Step};
+use std::io;
 
 // What stands in every cell of the result, and in every byte of scratch, before a call.
 const CELL: u32 = 9;
@@ -16,7 +17,7 @@ const BEFORE: u8 = 0xEE;
 const ROOM: usize = 9;
 
 // How many cells of result and bytes of scratch a call is lent.
-#[derive(Drop)]
+#[derive(Clone, Copy)]
 struct Rooms {
     out: usize,
     a: usize,
@@ -35,16 +36,18 @@ const STRIP: Step = Step::Strip {
     right: true,
 };
 
-pub(crate) fn tell_cells(cells: &[u32]) {
+pub(crate) fn tell_cells(rt: &impl Print, cells: &[u32]) -> io::Result<()> {
     let mut i = 0;
     while i < cells.len() {
-        io::write_all(1, b" ");
-        io::print_decimal(1, cells[i] as u64);
+        rt.write_all(b" ")?;
+        rt.print(cells[i])?;
         i += 1;
     }
+    Ok(())
 }
 
 fn tell(
+    rt: &impl Print,
     name: &[u8],
     text: &[u8],
     continuation: bool,
@@ -52,30 +55,31 @@ fn tell(
     out: &[u32],
     a: &[u8],
     b: &[u8],
-) {
-    io::write_all(1, name);
-    io::write_all(1, b", '");
-    io::write_all(1, text);
-    io::write_all(1, b"'");
+) -> io::Result<()> {
+    rt.write_all(name)?;
+    rt.write_all(b", '")?;
+    rt.write_all(text)?;
+    rt.write_all(b"'")?;
     if continuation {
-        io::write_all(1, b" continued");
+        rt.write_all(b" continued")?;
     }
-    io::write_all(1, b": ");
-    io::print_decimal(1, answer.number as u64);
-    io::write_all(1, b", written ");
-    io::print_decimal(1, answer.written as u64);
-    io::write_all(1, b", drops ");
-    io::print_decimal(1, answer.drops as u64);
-    io::write_all(1, b", result");
-    tell_cells(out);
-    io::write_all(1, b", scratch");
-    tell_bytes(a);
-    io::write_all(1, b" and");
-    tell_bytes(b);
-    io::write_all(1, b"\n");
+    rt.write_all(b": ")?;
+    rt.print(answer.number)?;
+    rt.write_all(b", written ")?;
+    rt.print(answer.written)?;
+    rt.write_all(b", drops ")?;
+    rt.print(answer.drops)?;
+    rt.write_all(b", result")?;
+    tell_cells(rt, out)?;
+    rt.write_all(b", scratch")?;
+    tell_bytes(rt, a)?;
+    rt.write_all(b" and")?;
+    tell_bytes(rt, b)?;
+    rt.write_all(b"\n")
 }
 
 fn encode_and_tell(
+    rt: &impl Print,
     name: &[u8],
     pieces: &[u8],
     offsets: &[u32],
@@ -102,7 +106,7 @@ fn encode_and_tell(
     out: &mut [u32],
     a: &mut [u8],
     b: &mut [u8],
-) {
+) -> io::Result<()> {
     let fallback = t_fallback(0);
     let answer = encode::encode(
         pieces,
@@ -136,12 +140,13 @@ fn encode_and_tell(
         a,
         b,
     );
-    tell(name, text, continuation, answer, out, a, b);
+    tell(rt, name, text, continuation, answer, out, a, b)
 }
 
 // A model with `crossings` pieces `b▁a` behind T's pieces. Writes no line where there are more than 33, or where a buffer would be
 // longer than `ROOM`.
 fn with_rooms(
+    rt: &impl Print,
     name: &[u8],
     crossings: usize,
     lookup: &[u32],
@@ -165,21 +170,21 @@ fn with_rooms(
     text: &[u8],
     continuation: bool,
     rooms: Rooms,
-) {
+) -> io::Result<()> {
     let out_room = rooms.out;
     let a_room = rooms.a;
     let b_room = rooms.b;
     if 33 < crossings {
-        return;
+        return Ok(());
     }
     if ROOM < out_room {
-        return;
+        return Ok(());
     }
     if ROOM < a_room {
-        return;
+        return Ok(());
     }
     if ROOM < b_room {
-        return;
+        return Ok(());
     }
     let pieces = crossed_pieces();
     let offsets = crossed_offsets();
@@ -189,6 +194,7 @@ fn with_rooms(
     let mut a = [BEFORE; ROOM];
     let mut b = [BEFORE; ROOM];
     encode_and_tell(
+        rt,
         name,
         &pieces[..pieces_end],
         &offsets[..offsets_end],
@@ -215,11 +221,18 @@ fn with_rooms(
         &mut out[..out_room],
         &mut a[..a_room],
         &mut b[..b_room],
-    );
+    )
 }
 
 // U, whose piece `b▁a` stands `crossings` times, equal ones under one entry of the lookup list.
-fn u(name: &[u8], crossings: usize, text: &[u8], continuation: bool, rooms: Rooms) {
+fn u(
+    rt: &impl Print,
+    name: &[u8],
+    crossings: usize,
+    text: &[u8],
+    continuation: bool,
+    rooms: Rooms,
+) -> io::Result<()> {
     let lookup = LOOKUP_U;
     let left = LEFT_U;
     let right = RIGHT_U;
@@ -229,6 +242,7 @@ fn u(name: &[u8], crossings: usize, text: &[u8], continuation: bool, rooms: Room
     let no_ids = [0u32; 0];
     let no_flags = [false; 0];
     with_rooms(
+        rt,
         name,
         crossings,
         &lookup,
@@ -252,11 +266,12 @@ fn u(name: &[u8], crossings: usize, text: &[u8], continuation: bool, rooms: Room
         text,
         continuation,
         rooms,
-    );
+    )
 }
 
 // T with two token lists, one step or none, and a metaspace that puts marks in front by `prepend`.
 fn t(
+    rt: &impl Print,
     name: &[u8],
     first: &[u8],
     first_offsets: &[u32],
@@ -274,13 +289,14 @@ fn t(
     text: &[u8],
     continuation: bool,
     rooms: Rooms,
-) {
+) -> io::Result<()> {
     let lookup = t_lookup(0);
     let left = LEFT_T;
     let right = RIGHT_T;
     let result = t_result(0);
     let rank = RANK_T;
     with_rooms(
+        rt,
         name,
         0,
         &lookup,
@@ -304,22 +320,24 @@ fn t(
         text,
         continuation,
         rooms,
-    );
+    )
 }
 
 // T without tokens, whose metaspace is Always.
 fn plain(
+    rt: &impl Print,
     name: &[u8],
     step: Step,
     step_count: usize,
     text: &[u8],
     continuation: bool,
     rooms: Rooms,
-) {
+) -> io::Result<()> {
     let no_offsets = [0u32];
     let no_ids = [0u32; 0];
     let no_flags = [false; 0];
     t(
+        rt,
         name,
         b"",
         &no_offsets,
@@ -337,11 +355,12 @@ fn plain(
         text,
         continuation,
         rooms,
-    );
+    )
 }
 
 // T with the token `<n>` of id 50 in its first list.
 fn with_n(
+    rt: &impl Print,
     name: &[u8],
     step: Step,
     step_count: usize,
@@ -349,7 +368,7 @@ fn with_n(
     text: &[u8],
     continuation: bool,
     rooms: Rooms,
-) {
+) -> io::Result<()> {
     let token = TOKEN;
     let offsets = [0u32, 3];
     let ids = [50u32];
@@ -358,6 +377,7 @@ fn with_n(
     let no_ids = [0u32; 0];
     let no_flags = [false; 0];
     t(
+        rt,
         name,
         &token,
         &offsets,
@@ -375,12 +395,12 @@ fn with_n(
         text,
         continuation,
         rooms,
-    );
+    )
 }
 
 // T with the tokens `<` (60, rstrip), space and `b` (61), `b` (62) and `>` (63, lstrip): a line with these as its first list, and one
 // with them as its second.
-fn with_four(text: &[u8]) {
+fn with_four(rt: &impl Print, text: &[u8]) -> io::Result<()> {
     let offsets = [0u32, 1, 3, 4, 5];
     let ids = [60u32, 61, 62, 63];
     let lstrip = [false, false, false, true];
@@ -389,6 +409,7 @@ fn with_four(text: &[u8]) {
     let no_ids = [0u32; 0];
     let no_flags = [false; 0];
     t(
+        rt,
         b"T with four tokens",
         b"< bb>",
         &offsets,
@@ -406,8 +427,9 @@ fn with_four(text: &[u8]) {
         text,
         false,
         RAW,
-    );
+    )?;
     t(
+        rt,
         b"T with four tokens in the second list",
         b"",
         &no_offsets,
@@ -425,36 +447,46 @@ fn with_four(text: &[u8]) {
         text,
         false,
         Rooms { out: 6, a: 4, b: 4 },
-    );
+    )
 }
 
 // T itself.
-fn bare(text: &[u8], continuation: bool, out: usize) {
+fn bare(rt: &impl Print, text: &[u8], continuation: bool, out: usize) -> io::Result<()> {
     plain(
+        rt,
         b"T",
         STRIP,
         0,
         text,
         continuation,
         Rooms { out, a: 1, b: 2 },
-    );
+    )
 }
 
 // T with one step, which takes it off the raw path.
-fn stripped(text: &[u8], continuation: bool, out: usize, a: usize, b: usize) {
+fn stripped(
+    rt: &impl Print,
+    text: &[u8],
+    continuation: bool,
+    out: usize,
+    a: usize,
+    b: usize,
+) -> io::Result<()> {
     plain(
+        rt,
         b"T with Strip",
         STRIP,
         1,
         text,
         continuation,
         Rooms { out, a, b },
-    );
+    )
 }
 
 // Two sections, whose longest outputs have four bytes and five, and their token: six cells, the first section's two of them.
-fn two_sections(out: usize, room: usize) {
+fn two_sections(rt: &impl Print, out: usize, room: usize) -> io::Result<()> {
     with_n(
+        rt,
         b"T with <n> and Strip",
         STRIP,
         1,
@@ -466,48 +498,49 @@ fn two_sections(out: usize, room: usize) {
             a: room,
             b: room,
         },
-    );
+    )
 }
 
 // P1 to P7 of rule 14.3.
-fn table(continuation: bool) {
-    bare(b"ab a", continuation, 6);
-    bare(b" a", continuation, 6);
-    bare(b"\x_c3\x_a9", continuation, 6);
-    bare(b"c", continuation, 6);
-    bare(b"a.b", continuation, 6);
-    u(b"U", 1, b"b a", continuation, RAW);
-    u(b"U", 1, b"b b", continuation, RAW);
+fn table(rt: &impl Print, continuation: bool) -> io::Result<()> {
+    bare(rt, b"ab a", continuation, 6)?;
+    bare(rt, b" a", continuation, 6)?;
+    bare(rt, b"\xC3\xA9", continuation, 6)?;
+    bare(rt, b"c", continuation, 6)?;
+    bare(rt, b"a.b", continuation, 6)?;
+    u(rt, b"U", 1, b"b a", continuation, RAW)?;
+    u(rt, b"U", 1, b"b b", continuation, RAW)
 }
 
 // Sections around tokens, empty ones among them.
-fn tokens(name: &[u8], prepend: PrependScheme) {
-    with_n(name, STRIP, 0, prepend, b"a<n>b", false, RAW);
-    with_n(name, STRIP, 0, prepend, b"a<n>b", true, RAW);
-    with_n(name, STRIP, 0, prepend, b"<n>a", false, RAW);
-    with_n(name, STRIP, 0, prepend, b"<n>a", true, RAW);
-    with_n(name, STRIP, 0, prepend, b"a<n>", false, RAW);
-    with_n(name, STRIP, 0, prepend, b"<n><n>", false, RAW);
-    with_n(name, STRIP, 0, prepend, b"<n>", false, RAW);
-    with_n(name, STRIP, 0, prepend, b"", false, RAW);
+fn tokens(rt: &impl Print, name: &[u8], prepend: PrependScheme) -> io::Result<()> {
+    with_n(rt, name, STRIP, 0, prepend, b"a<n>b", false, RAW)?;
+    with_n(rt, name, STRIP, 0, prepend, b"a<n>b", true, RAW)?;
+    with_n(rt, name, STRIP, 0, prepend, b"<n>a", false, RAW)?;
+    with_n(rt, name, STRIP, 0, prepend, b"<n>a", true, RAW)?;
+    with_n(rt, name, STRIP, 0, prepend, b"a<n>", false, RAW)?;
+    with_n(rt, name, STRIP, 0, prepend, b"<n><n>", false, RAW)?;
+    with_n(rt, name, STRIP, 0, prepend, b"<n>", false, RAW)?;
+    with_n(rt, name, STRIP, 0, prepend, b"", false, RAW)
 }
 
 // What an rstrip swallows, and sections that an lstrip shortens or leaves empty.
-fn strips() {
-    with_four(b"< b");
-    with_four(b"< bb");
-    with_four(b"a >a");
-    with_four(b" >a");
-    with_four(b"<  >");
+fn strips(rt: &impl Print) -> io::Result<()> {
+    with_four(rt, b"< b")?;
+    with_four(rt, b"< bb")?;
+    with_four(rt, b"a >a")?;
+    with_four(rt, b" >a")?;
+    with_four(rt, b"<  >")
 }
 
 // What a step makes of nothing, and makes nothing of.
-fn emptied() {
-    stripped(b" ab a ", false, 5, 9, 9);
-    stripped(b"  ", false, 5, 0, 0);
-    stripped(b"", false, 5, 0, 0);
+fn emptied(rt: &impl Print) -> io::Result<()> {
+    stripped(rt, b" ab a ", false, 5, 9, 9)?;
+    stripped(rt, b"  ", false, 5, 0, 0)?;
+    stripped(rt, b"", false, 5, 0, 0)?;
     let always = PrependScheme::Always;
     with_n(
+        rt,
         b"T with <n> and Strip",
         STRIP,
         1,
@@ -515,14 +548,15 @@ fn emptied() {
         b" <n> ",
         false,
         NONE,
-    );
+    )?;
     let insert = Step::Replace {
         pattern: Span { place: 0, len: 0 },
         content: Span { place: 0, len: 1 },
     };
     let four = Rooms { out: 6, a: 4, b: 4 };
-    plain(b"T with a for nothing", insert, 1, b"", false, four);
+    plain(rt, b"T with a for nothing", insert, 1, b"", false, four)?;
     with_n(
+        rt,
         b"T with <n> and a for nothing",
         insert,
         1,
@@ -530,44 +564,51 @@ fn emptied() {
         b"",
         false,
         four,
-    );
+    )
 }
 
 // With 33 crossings the kind is None: one unit, in which what stands around a dropped character merges, and no raw path.
-fn crossings(name: &[u8], count: usize) {
+fn crossings(rt: &impl Print, name: &[u8], count: usize) -> io::Result<()> {
     let nine = Rooms { out: 6, a: 9, b: 9 };
-    u(name, count, b"b a", false, nine);
-    u(name, count, b"bc a", false, nine);
-    u(name, count, b"bc a", false, Rooms { out: 6, a: 9, b: 8 });
-    u(name, count, b"bc a", true, nine);
+    u(rt, name, count, b"b a", false, nine)?;
+    u(rt, name, count, b"bc a", false, nine)?;
+    u(
+        rt,
+        name,
+        count,
+        b"bc a",
+        false,
+        Rooms { out: 6, a: 9, b: 8 },
+    )?;
+    u(rt, name, count, b"bc a", true, nine)
 }
 
-pub(crate) fn run() {
-    table(false);
-    table(true);
+pub(crate) fn run(rt: &impl Print) -> io::Result<()> {
+    table(rt, false)?;
+    table(rt, true)?;
     // Characters that drop or fall back to bytes; no text; a result that is a cell short and exact.
-    bare(b"acb", false, 6);
-    bare(b"\x_c3\x_a9\x_c3\x_a8", false, 6);
-    bare(b"", false, 6);
-    bare(b"ab a", false, 4);
-    bare(b"ab a", false, 5);
-    bare(b"ab a", true, 4);
-    tokens(b"T with <n>", PrependScheme::Always);
-    tokens(b"T with <n>, First", PrependScheme::First);
-    strips();
+    bare(rt, b"acb", false, 6)?;
+    bare(rt, b"\xC3\xA9\xC3\xA8", false, 6)?;
+    bare(rt, b"", false, 6)?;
+    bare(rt, b"ab a", false, 4)?;
+    bare(rt, b"ab a", false, 5)?;
+    bare(rt, b"ab a", true, 4)?;
+    tokens(rt, b"T with <n>", PrependScheme::Always)?;
+    tokens(rt, b"T with <n>, First", PrependScheme::First)?;
+    strips(rt)?;
     // Scratch a byte short and exact, result a cell short and exact, both short; and a continuation.
-    stripped(b"ab a", false, 5, 8, 9);
-    stripped(b"ab a", false, 5, 9, 8);
-    stripped(b"ab a", false, 4, 9, 8);
-    stripped(b"ab a", false, 4, 9, 9);
-    stripped(b"ab a", false, 5, 9, 9);
-    stripped(b"ab a", true, 5, 9, 9);
+    stripped(rt, b"ab a", false, 5, 8, 9)?;
+    stripped(rt, b"ab a", false, 5, 9, 8)?;
+    stripped(rt, b"ab a", false, 4, 9, 8)?;
+    stripped(rt, b"ab a", false, 4, 9, 9)?;
+    stripped(rt, b"ab a", false, 5, 9, 9)?;
+    stripped(rt, b"ab a", true, 5, 9, 9)?;
     // The first section's cells are short, and the last section's scratch with them or not.
-    two_sections(1, 4);
-    two_sections(1, 5);
-    two_sections(5, 5);
-    two_sections(6, 5);
-    emptied();
-    crossings(b"U with 32 crossings", 32);
-    crossings(b"U with 33 crossings", 33);
+    two_sections(rt, 1, 4)?;
+    two_sections(rt, 1, 5)?;
+    two_sections(rt, 5, 5)?;
+    two_sections(rt, 6, 5)?;
+    emptied(rt)?;
+    crossings(rt, b"U with 32 crossings", 32)?;
+    crossings(rt, b"U with 33 crossings", 33)
 }

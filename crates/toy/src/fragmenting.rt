@@ -6,6 +6,7 @@ use crate::tables::{
     t_fallback, t_lookup, t_offsets, t_pieces, t_result,
 };
 use model::{Metaspace, PrependScheme, Span, Step};
+use std::io;
 
 // The longest result buffer that is lent, and what stands in it before a call.
 const ROOM: usize = 6;
@@ -14,6 +15,7 @@ const BEFORE: u32 = 9;
 
 // Of the two steps, a Prepend of the mark and spaces turned into marks, as many run as `step_count` says.
 fn fragment_and_tell(
+    rt: &impl Print,
     name: &[u8],
     pieces: &[u8],
     offsets: &[u32],
@@ -32,7 +34,7 @@ fn fragment_and_tell(
     text: &[u8],
     target: usize,
     out: &mut [u32],
-) {
+) -> io::Result<()> {
     let fallback = t_fallback(0);
     let no_offsets = [0u32];
     let no_ids = [0u32; 0];
@@ -61,7 +63,7 @@ fn fragment_and_tell(
         &no_ids,
         &no_flags,
         &no_flags,
-        b"\x_e2\x96\x81 ",
+        b"\xE2\x96\x81 ",
         steps,
         step_count,
         Metaspace::Present {
@@ -72,17 +74,18 @@ fn fragment_and_tell(
         target,
         out,
     );
-    io::write_all(1, name);
-    io::write_all(1, b": ");
-    io::print_decimal(1, answer.number as u64);
-    io::write_all(1, b", written ");
-    io::print_decimal(1, answer.written as u64);
-    io::write_all(1, b", result");
-    tell_cells(out);
-    io::write_all(1, b"\n");
+    rt.write_all(name)?;
+    rt.write_all(b": ")?;
+    rt.print(answer.number)?;
+    rt.write_all(b", written ")?;
+    rt.print(answer.written)?;
+    rt.write_all(b", result")?;
+    tell_cells(rt, out)?;
+    rt.write_all(b"\n")
 }
 
 fn in_t(
+    rt: &impl Print,
     name: &[u8],
     token: &[u8],
     token_offsets: &[u32],
@@ -94,7 +97,7 @@ fn in_t(
     text: &[u8],
     target: usize,
     out: &mut [u32],
-) {
+) -> io::Result<()> {
     let pieces = t_pieces(0);
     let offsets = t_offsets(0);
     let lookup = t_lookup(0);
@@ -103,6 +106,7 @@ fn in_t(
     let result = t_result(0);
     let rank = RANK_T;
     fragment_and_tell(
+        rt,
         name,
         &pieces,
         &offsets,
@@ -121,19 +125,27 @@ fn in_t(
         text,
         target,
         out,
-    );
+    )
 }
 
 // T with no tokens and no steps.
-fn t_alone(name: &[u8], split: bool, text: &[u8], target: usize, room: usize) {
+fn t_alone(
+    rt: &impl Print,
+    name: &[u8],
+    split: bool,
+    text: &[u8],
+    target: usize,
+    room: usize,
+) -> io::Result<()> {
     if ROOM < room {
-        return;
+        return Ok(());
     }
     let mut out = [BEFORE; ROOM];
     let no_offsets = [0u32];
     let no_ids = [0u32; 0];
     let no_flags = [false; 0];
     in_t(
+        rt,
         name,
         b"",
         &no_offsets,
@@ -145,11 +157,19 @@ fn t_alone(name: &[u8], split: bool, text: &[u8], target: usize, room: usize) {
         text,
         target,
         &mut out[..room],
-    );
+    )
 }
 
 // T with one token of one byte.
-fn t_and_token(name: &[u8], token: u8, lstrip: bool, rstrip: bool, step_count: usize, text: &[u8]) {
+fn t_and_token(
+    rt: &impl Print,
+    name: &[u8],
+    token: u8,
+    lstrip: bool,
+    rstrip: bool,
+    step_count: usize,
+    text: &[u8],
+) -> io::Result<()> {
     let mut out = [BEFORE; ROOM];
     let content = [token];
     let offsets = [0u32, 1];
@@ -157,11 +177,11 @@ fn t_and_token(name: &[u8], token: u8, lstrip: bool, rstrip: bool, step_count: u
     let left = [lstrip];
     let right = [rstrip];
     in_t(
-        name, &content, &offsets, &ids, &left, &right, step_count, false, text, 0, &mut out,
-    );
+        rt, name, &content, &offsets, &ids, &left, &right, step_count, false, text, 0, &mut out,
+    )
 }
 
-fn in_u(name: &[u8], text: &[u8]) {
+fn in_u(rt: &impl Print, name: &[u8], text: &[u8]) -> io::Result<()> {
     let pieces = PIECES_U;
     let offsets = OFFSETS_U;
     let lookup = LOOKUP_U;
@@ -174,6 +194,7 @@ fn in_u(name: &[u8], text: &[u8]) {
     let no_ids = [0u32; 0];
     let no_flags = [false; 0];
     fragment_and_tell(
+        rt,
         name,
         &pieces,
         &offsets,
@@ -192,82 +213,105 @@ fn in_u(name: &[u8], text: &[u8]) {
         text,
         0,
         &mut out,
-    );
+    )
 }
 
-pub(crate) fn run() {
-    t_alone(b"T: fragments of 'a b a', target 0", false, b"a b a", 0, 6);
-    in_u(b"U: fragments of 'a b a', target 0", b"a b a");
-    t_alone(b"T: fragments of 'a  b', target 2", false, b"a  b", 2, 6);
+pub(crate) fn run(rt: &impl Print) -> io::Result<()> {
     t_alone(
+        rt,
+        b"T: fragments of 'a b a', target 0",
+        false,
+        b"a b a",
+        0,
+        6,
+    )?;
+    in_u(rt, b"U: fragments of 'a b a', target 0", b"a b a")?;
+    t_alone(
+        rt,
+        b"T: fragments of 'a  b', target 2",
+        false,
+        b"a  b",
+        2,
+        6,
+    )?;
+    t_alone(
+        rt,
         b"T that splits: fragments of 'a  b', target 2",
         true,
         b"a  b",
         2,
         6,
-    );
-    in_u(b"U: fragments of 'a b b', target 0", b"a b b");
-    t_alone(b"T: fragments of the empty text", false, b"", 0, 6);
+    )?;
+    in_u(rt, b"U: fragments of 'a b b', target 0", b"a b b")?;
+    t_alone(rt, b"T: fragments of the empty text", false, b"", 0, 6)?;
     t_alone(
+        rt,
         b"T: fragments of 'a b a', a cell short",
         false,
         b"a b a",
         0,
         5,
-    );
+    )?;
     t_alone(
+        rt,
         b"T: fragments of 'a b a', the largest target",
         false,
         b"a b a",
         18446744073709551615,
         6,
-    );
+    )?;
     t_and_token(
+        rt,
         b"T and the token ' ': fragments of 'a a'",
         0x20,
         false,
         false,
         0,
         b"a a",
-    );
+    )?;
     t_and_token(
+        rt,
         b"T and the token 'b': fragments of 'ab a'",
         0x62,
         false,
         false,
         0,
         b"ab a",
-    );
+    )?;
     t_and_token(
+        rt,
         b"T and the token 'b' with rstrip: fragments of 'ab a'",
         0x62,
         false,
         true,
         0,
         b"ab a",
-    );
+    )?;
     t_and_token(
+        rt,
         b"T and the token 'a' with lstrip: fragments of 'ab a'",
         0x61,
         true,
         false,
         0,
         b"ab a",
-    );
+    )?;
     t_and_token(
+        rt,
         b"T, Unguarded, and the token 'b': fragments of 'ab a'",
         0x62,
         false,
         false,
         2,
         b"ab a",
-    );
+    )?;
     t_and_token(
+        rt,
         b"T with a Prepend alone: fragments of 'ab a'",
         0x62,
         false,
         false,
         1,
         b"ab a",
-    );
+    )
 }

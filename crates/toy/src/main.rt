@@ -9,10 +9,12 @@ mod fragmenting;
 mod normalising;
 mod tables;
 
-fn main() {
-    checks::run();
-    normalising::run();
-    encoding::run();
-    fragmenting::run();
-    decoding::run();
+use std::io;
+
+fn main(rt: HostRuntime) -> io::Result<()> {
+    checks::run(&rt)?;
+    normalising::run(&rt)?;
+    encoding::run(&rt)?;
+    fragmenting::run(&rt)?;
+    decoding::run(&rt)
 }

@@ -2,6 +2,7 @@
 // short and exact. Writes a line for each: the answer's number, and all that stands in the three buffers afterwards.
 use crate::tables::{LEFT_T, RANK_T, RIGHT_T, t_fallback, t_lookup, t_offsets, t_pieces, t_result};
 use model::{Metaspace, PrependScheme, Span, Step};
+use std::io;
 
 // What stands in every buffer before a call.
 const BEFORE: u8 = 0xEE;
@@ -9,29 +10,38 @@ const BEFORE: u8 = 0xEE;
 // The longest buffer that is lent.
 const ROOM: usize = 8;
 
-pub(crate) fn tell_bytes(bytes: &[u8]) {
+pub(crate) fn tell_bytes(rt: &impl Print, bytes: &[u8]) -> io::Result<()> {
     let mut i = 0;
     while i < bytes.len() {
-        io::write_all(1, b" ");
-        io::print_hex(1, bytes[i] as u64, 2);
+        rt.write_all(b" ")?;
+        print!(rt; "{:02x}", bytes[i])?;
         i += 1;
     }
+    Ok(())
 }
 
-fn tell(name: &[u8], number: u32, out: &[u8], a: &[u8], b: &[u8]) {
-    io::write_all(1, name);
-    io::write_all(1, b": ");
-    io::print_decimal(1, number as u64);
-    io::write_all(1, b", result");
-    tell_bytes(out);
-    io::write_all(1, b", scratch");
-    tell_bytes(a);
-    io::write_all(1, b" and");
-    tell_bytes(b);
-    io::write_all(1, b"\n");
+fn tell(
+    rt: &impl Print,
+    name: &[u8],
+    number: u32,
+    out: &[u8],
+    a: &[u8],
+    b: &[u8],
+) -> io::Result<()> {
+    rt.write_all(name)?;
+    rt.write_all(b": ")?;
+    rt.print(number)?;
+    rt.write_all(b", result")?;
+    tell_bytes(rt, out)?;
+    rt.write_all(b", scratch")?;
+    tell_bytes(rt, a)?;
+    rt.write_all(b" and")?;
+    tell_bytes(rt, b)?;
+    rt.write_all(b"\n")
 }
 
 fn normalise_and_tell(
+    rt: &impl Print,
     name: &[u8],
     steps: [Step; 16],
     step_count: usize,
@@ -40,7 +50,7 @@ fn normalise_and_tell(
     out: &mut [u8],
     a: &mut [u8],
     b: &mut [u8],
-) {
+) -> io::Result<()> {
     let pieces = t_pieces(0);
     let offsets = t_offsets(0);
     let lookup = t_lookup(0);
@@ -71,7 +81,7 @@ fn normalise_and_tell(
         &no_ids,
         &no_flags,
         &no_flags,
-        b"\x_c3\x_a9a",
+        b"\xC3\xA9a",
         steps,
         step_count,
         metaspace,
@@ -81,11 +91,12 @@ fn normalise_and_tell(
         a,
         b,
     );
-    tell(name, answer.number, out, a, b);
+    tell(rt, name, answer.number, out, a, b)
 }
 
 // Lends a result buffer of `out_room` bytes and scratch of `a_room` and `b_room`; writes no line where one is above `ROOM`.
 fn with_rooms(
+    rt: &impl Print,
     name: &[u8],
     steps: [Step; 16],
     step_count: usize,
@@ -94,20 +105,21 @@ fn with_rooms(
     out_room: usize,
     a_room: usize,
     b_room: usize,
-) {
+) -> io::Result<()> {
     if ROOM < out_room {
-        return;
+        return Ok(());
     }
     if ROOM < a_room {
-        return;
+        return Ok(());
     }
     if ROOM < b_room {
-        return;
+        return Ok(());
     }
     let mut out = [BEFORE; ROOM];
     let mut a = [BEFORE; ROOM];
     let mut b = [BEFORE; ROOM];
     normalise_and_tell(
+        rt,
         name,
         steps,
         step_count,
@@ -116,11 +128,20 @@ fn with_rooms(
         &mut out[..out_room],
         &mut a[..a_room],
         &mut b[..b_room],
-    );
+    )
 }
 
-fn one_step(name: &[u8], step: Step, text: &[u8], out_room: usize, a_room: usize, b_room: usize) {
+fn one_step(
+    rt: &impl Print,
+    name: &[u8],
+    step: Step,
+    text: &[u8],
+    out_room: usize,
+    a_room: usize,
+    b_room: usize,
+) -> io::Result<()> {
     with_rooms(
+        rt,
         name,
         [step; 16],
         1,
@@ -129,25 +150,39 @@ fn one_step(name: &[u8], step: Step, text: &[u8], out_room: usize, a_room: usize
         out_room,
         a_room,
         b_room,
-    );
+    )
 }
 
 // The letter of two bytes in front of `a`.
-fn prepend(name: &[u8], out_room: usize, a_room: usize, b_room: usize) {
+fn prepend(
+    rt: &impl Print,
+    name: &[u8],
+    out_room: usize,
+    a_room: usize,
+    b_room: usize,
+) -> io::Result<()> {
     let content = Span { place: 0, len: 2 };
-    one_step(name, Step::Prepend(content), b"a", out_room, a_room, b_room);
+    one_step(
+        rt,
+        name,
+        Step::Prepend(content),
+        b"a",
+        out_room,
+        a_room,
+        b_room,
+    )
 }
 
-fn strip(name: &[u8], text: &[u8]) {
+fn strip(rt: &impl Print, name: &[u8], text: &[u8]) -> io::Result<()> {
     let step = Step::Strip {
         left: true,
         right: true,
     };
-    one_step(name, step, text, ROOM, ROOM, ROOM);
+    one_step(rt, name, step, text, ROOM, ROOM, ROOM)
 }
 
 // In `aa` each `a` becomes the letter of two bytes, and that letter nothing.
-fn longer_then_shorter(name: &[u8], room: usize) {
+fn longer_then_shorter(rt: &impl Print, name: &[u8], room: usize) -> io::Result<()> {
     let letter = Span { place: 0, len: 2 };
     let a = Span { place: 2, len: 1 };
     let empty = Span { place: 0, len: 0 };
@@ -161,10 +196,26 @@ fn longer_then_shorter(name: &[u8], room: usize) {
     };
     let mut steps = [longer; 16];
     steps[1] = shorter;
-    with_rooms(name, steps, 2, Metaspace::Absent, b"aa", ROOM, room, room);
+    with_rooms(
+        rt,
+        name,
+        steps,
+        2,
+        Metaspace::Absent,
+        b"aa",
+        ROOM,
+        room,
+        room,
+    )
 }
 
-fn metaspace(name: &[u8], text: &[u8], a_room: usize, b_room: usize) {
+fn metaspace(
+    rt: &impl Print,
+    name: &[u8],
+    text: &[u8],
+    a_room: usize,
+    b_room: usize,
+) -> io::Result<()> {
     let no_step = Step::Strip {
         left: false,
         right: false,
@@ -173,10 +224,20 @@ fn metaspace(name: &[u8], text: &[u8], a_room: usize, b_room: usize) {
         prepend: PrependScheme::Always,
         split: false,
     };
-    with_rooms(name, [no_step; 16], 0, always, text, ROOM, a_room, b_room);
+    with_rooms(
+        rt,
+        name,
+        [no_step; 16],
+        0,
+        always,
+        text,
+        ROOM,
+        a_room,
+        b_room,
+    )
 }
 
-fn empty_text() {
+fn empty_text(rt: &impl Print) -> io::Result<()> {
     let letter = Span { place: 0, len: 2 };
     let a = Span { place: 2, len: 1 };
     let empty = Span { place: 0, len: 0 };
@@ -190,54 +251,61 @@ fn empty_text() {
     };
     let collapse = Step::CollapseSpaces { content: letter };
     one_step(
+        rt,
         b"Prepend on empty text",
         Step::Prepend(letter),
         b"",
         ROOM,
         ROOM,
         ROOM,
-    );
-    one_step(b"Replace on empty text", replace, b"", ROOM, ROOM, ROOM);
+    )?;
+    one_step(rt, b"Replace on empty text", replace, b"", ROOM, ROOM, ROOM)?;
     one_step(
+        rt,
         b"Replace of the empty pattern on empty text",
         insert,
         b"",
         ROOM,
         ROOM,
         ROOM,
-    );
+    )?;
     one_step(
+        rt,
         b"CollapseSpaces on empty text",
         collapse,
         b"",
         ROOM,
         ROOM,
         ROOM,
-    );
-    strip(b"Strip on empty text", b"");
-    metaspace(b"Metaspace on empty text", b"", ROOM, ROOM);
+    )?;
+    strip(rt, b"Strip on empty text", b"")?;
+    metaspace(rt, b"Metaspace on empty text", b"", ROOM, ROOM)
 }
 
 // An output of three bytes, one of four between two steps, and metaspace's of four.
-fn scratch_short_and_exact() {
-    prepend(b"Prepend, first scratch a byte short", ROOM, 2, 3);
-    prepend(b"Prepend, second scratch a byte short", ROOM, 3, 2);
-    prepend(b"Prepend, scratch exact", ROOM, 3, 3);
-    longer_then_shorter(b"Two steps, scratch a byte short", 3);
-    longer_then_shorter(b"Two steps, scratch exact", 4);
-    metaspace(b"Metaspace, scratch a byte short", b"a", 4, 3);
-    metaspace(b"Metaspace, scratch exact", b"a", 4, 4);
+fn scratch_short_and_exact(rt: &impl Print) -> io::Result<()> {
+    prepend(rt, b"Prepend, first scratch a byte short", ROOM, 2, 3)?;
+    prepend(rt, b"Prepend, second scratch a byte short", ROOM, 3, 2)?;
+    prepend(rt, b"Prepend, scratch exact", ROOM, 3, 3)?;
+    longer_then_shorter(rt, b"Two steps, scratch a byte short", 3)?;
+    longer_then_shorter(rt, b"Two steps, scratch exact", 4)?;
+    metaspace(rt, b"Metaspace, scratch a byte short", b"a", 4, 3)?;
+    metaspace(rt, b"Metaspace, scratch exact", b"a", 4, 4)
 }
 
-fn result_short_and_exact() {
-    prepend(b"Prepend, result a byte short", 2, ROOM, ROOM);
-    prepend(b"Prepend, result exact", 3, ROOM, ROOM);
+fn result_short_and_exact(rt: &impl Print) -> io::Result<()> {
+    prepend(rt, b"Prepend, result a byte short", 2, ROOM, ROOM)?;
+    prepend(rt, b"Prepend, result exact", 3, ROOM, ROOM)
 }
 
-pub(crate) fn run() {
-    strip(b"Strip of U+00A0, a, U+00A0", b"\x_c2\x_a0a\x_c2\x_a0");
-    strip(b"Strip of U+200B, a, U+200B", b"\x_e2\x80\x8_ba\x_e2\x80\x8_b");
-    empty_text();
-    scratch_short_and_exact();
-    result_short_and_exact();
+pub(crate) fn run(rt: &impl Print) -> io::Result<()> {
+    strip(rt, b"Strip of U+00A0, a, U+00A0", b"\xC2\xA0a\xC2\xA0")?;
+    strip(
+        rt,
+        b"Strip of U+200B, a, U+200B",
+        b"\xE2\x80\x8Ba\xE2\x80\x8B",
+    )?;
+    empty_text(rt)?;
+    scratch_short_and_exact(rt)?;
+    result_short_and_exact(rt)
 }
