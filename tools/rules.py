@@ -3,8 +3,8 @@
 
     tools/rules.py
 
-A link [`name`](file) in docs/*.md names a definition or law that the file has, or a function `crate::module::name` with its proof
-(or its source, where there is no proof file). Every "rule 5.3" in the repository names a rule of docs/RULES.md. Prints what does
+A link [`name`](file) in docs/*.md names a definition or law that the file has, or a function `crate::module::name` with the file of its
+proof: Answers.antt, where there is none Invariants.antt, and its source where Rattle proves it with no file. Every "rule 5.3" in the repository names a rule of docs/RULES.md. Prints what does
 not exist and exits with 1 if there is anything.
 """
 import argparse
@@ -20,12 +20,16 @@ LINK = re.compile(r"\[`([^`]+)`\]\(([^)]+)\)")
 CITED = re.compile(r"\b[Rr]ules? (\d+)\.(\d+)")
 
 
+PROOFS = ("Answers.antt", "Invariants.antt")
+
+
 def source_of(function):
-    """The source file of crate::module::name, its name, and where its proof stands if it has one."""
+    """The source file of crate::module::name, its name, and the file that a link to it leads to."""
     crate, *modules, name = function.split("::")
     folder = ROOT / "crates" / crate
     source = folder / "src" / ("/".join(modules) + ".rt" if modules else "lib.rt")
-    return source, name, folder / "proofs" / "/".join(modules) / name / "Proof.antt"
+    proofs = [folder / "proofs" / "/".join(modules) / name / file for file in PROOFS]
+    return source, name, next((proof for proof in proofs if proof.is_file()), source)
 
 
 def defines(text, name):
@@ -34,16 +38,15 @@ def defines(text, name):
 
 
 def faults_of_link(name, target):
-    if not target.is_file():
-        return f"no file {target.relative_to(ROOT)}"
+    if not target.is_relative_to(ROOT) or not target.is_file():
+        return f"no file {target}"
     if "::" not in name:
         return None if defines(target.read_text(), name) else f"{target.relative_to(ROOT)} has no {name}"
-    source, function, proof = source_of(name)
+    source, function, expected = source_of(name)
     if not source.is_file():
         return f"no file {source.relative_to(ROOT)}"
     if not re.search(r"\bfn " + function + r"\b", source.read_text()):
         return f"{source.relative_to(ROOT)} has no fn {function}"
-    expected = proof if proof.is_file() else source
     return None if target == expected else f"{name} leads to {target.relative_to(ROOT)}, not to {expected.relative_to(ROOT)}"
 
 

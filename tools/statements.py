@@ -23,7 +23,7 @@ CRATES = "utf8 model index normalise units merge sections records prepare stretc
 PAGE = ROOT / "docs" / "STATEMENTS.md"
 LAWS = ROOT / "crates" / "theorems" / "specs" / "Settled.antt"
 FUNCTION = re.compile(r'^( *)pub(?:\(crate\))? (?:extern "C" )?fn (\w+)', re.M)
-CLAUSE = re.compile(r"(?:\b(requires|ensures) )?\{")
+CLAUSE = re.compile(r"(?:\b(requires|ensures)(?: \w+)? )?\{")
 ROWS = "| function | promise | definition | two wrong answers it rules out | shown by |"
 OPEN = "| function | left open | why |"
 
@@ -62,34 +62,42 @@ class Function:
         self.crate, self.path = crate, path
         start = text.index("(", at)
         stop = closed(text, start)
-        lent = re.findall(r"(\w+): &(?:'\w+ )?mut ", text[start:stop])
-        answer = re.compile(r"\s*-> (.*?)\s+(?:(?:requires|ensures) )?\{", re.S).match(text, stop + 1)
+        self.lent = re.findall(r"(\w+): &(?:'\w+ )?mut ", text[start:stop])
+        answer = re.compile(r"\s*-> (.*?)\s+(?:(?:requires|ensures)(?: \w+)? )?\{", re.S).match(text, stop + 1)
         self.fields = fields.get(answer[1], []) if answer else []
-        self.sought = (["result"] if answer else []) + lent
+        self.sought = (["result"] if answer else []) + self.lent
         self.ensures = []
         clause = CLAUSE.search(text, stop)
         while clause[1]:
             stop = closed(text, clause.end() - 1)
             if clause[1] == "ensures":
-                self.ensures.append(text[clause.end():stop].strip())
+                self.ensures.append(" ".join(text[clause.end():stop].split()))
             clause = CLAUSE.search(text, stop)
 
     def says(self, word):
-        return any(re.search(r"(?<![\w·-])" + re.escape(word) + r"(?![\w·-])", clause) for clause in self.ensures)
+        return any(re.search(r"(?<![\w'-])" + re.escape(word) + r"(?![\w'-])", clause) for clause in self.ensures)
 
 
-def settles(left, result, views):
+def settles(left, views):
     """What an equation settles that has this on its left, and by which form."""
     left = bare(left)
-    if left == result:
+    if left == "result":
         return "result", "the result"
-    if left == f"now {result}":
+    if left == "result.now":
         return "result", "the result's elements"
-    if cell := re.fullmatch(r"now \((\w+) \.exit\)", left):
+    if cell := re.fullmatch(r"(\w+)\.new", left):
         return cell[1], "a lent cell"
-    if (view := re.fullmatch(r"([\w·-]+) (\w+)", left)) and view[2] == result and view[1] in views:
+    if (view := re.fullmatch(r"(\w+) result", left)) and view[1] in views:
         return "result", "a view of the result"
     return None, None
+
+
+def known_before(term, function, result_known):
+    """Whether a term names nothing that is known only after the call, but for the result where that is settled. A word before ` =` names
+    a record's field."""
+    if not result_known and re.search(r"(?<!\.)\bresult\b(?! =)", term):
+        return False
+    return not any(re.search(rf"(?<!\.)\b{cell}\b(?!\.old\b| =)", term) for cell in function.lent)
 
 
 def equations(claim):
@@ -98,7 +106,7 @@ def equations(claim):
     if both := split_at(claim, "×"):
         first, rest = equations(both[0]), equations(both[1])
         return (first[0] + rest[0], first[1] or rest[1]) if first and rest else (first[0], True) if first else None
-    if whole := re.match(r"_≡_ \{A = \w+\} (?=\(record \{)", claim):
+    if whole := re.match(r"◌≡◌ \{A = \w+\} (?=\(record \{)", claim):
         stop = closed(claim, whole.end()) + 1
         return [(bare(claim[whole.end():stop]), bare(claim[stop:]))], False
     sides = split_at(claim, "≡")
@@ -109,18 +117,18 @@ def settled_by(function, views):
     """The parts of the outcome that the contract settles, and the form that it has."""
     settled, shown, forms = set(), [], []
     for clause in function.ensures:
-        head = re.match(r"λ (\w+)\. (?:let (.*?) in )?⌜ (.*) ⌝$", clause, re.S)
-        if not head or not (found := equations(head[3])):
+        head = re.fullmatch(r"(?:let (.*?) in )?(.*)", clause)
+        if not (found := equations(head[2])):
             return set(), "no equation"
-        result, named = head[1], head[2] or ""
+        named = head[1] or ""
         for left, right in found[0]:
-            given = f"{named} {right}"
-            if ".exit" in given or "result" not in settled and result != "_" and re.search(rf"(?<!\.)\b{result}\b", given):
+            if not known_before(f"{named} {right}", function, "result" in settled):
                 return set(), "an equation whose right side is not computed from what was there before"
             whole = left.startswith("record {")
             values = [bare(entry.split(" = ", 1)[1]) for entry in left[len("record {"):-1].split(";") if entry.strip()] if whole else [left]
-            fields = [value[len(result) + 2:] for value in values if value.startswith(f"{result} .")]
-            parts = [settles(value, result, views) for value in values if not value.startswith(f"{result} .")]
+            of_result = [value for value in values if value.startswith("result.") and value != "result.now"]
+            fields = [value[len("result."):] for value in of_result]
+            parts = [settles(value, views) for value in values if value not in of_result]
             if (None, None) in parts:
                 return set(), "an equation on something else"
             settled |= {part for part, _ in parts}
@@ -198,7 +206,7 @@ def main():
     found = functions()
     rows, open_rows, twice = tables()
     edits = {f"{edit.parent.parent.name}/{edit.name}" for edit in (ROOT / "crates").glob("*/must-fail/*.edit")}
-    views = set(re.findall(r"^pub ([\w·]+)-injective ", LAWS.read_text(), re.M))
+    views = set(re.findall(r"^pub (\w+)_injective ", LAWS.read_text(), re.M))
     faults = [f"{name}: two rows" for name in twice]
     faults += [f"{crate}::{name}: no row" for crate, name in found if (crate, name) not in rows]
     faults += [f"{crate}::{name}: a row, but no such function" for crate, name in rows if (crate, name) not in found]
