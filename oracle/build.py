@@ -46,7 +46,7 @@ def shared_library(path, work):
     """The library as one that can be loaded: a static one is linked, a shared one taken as it is."""
     path = pathlib.Path(path)
     if not path.is_file():
-        stop(f"there is no library {path}; `rt staticlib varitmol` makes target/staticlib/libvaritmol.a")
+        stop(f"there is no library {path}; `rt lib` in crates/varitmol makes crates/varitmol/out/libvaritmol.a")
     if path.suffix != ".a":
         return path.resolve()
     need("gcc", "makes a shared library of a static one")

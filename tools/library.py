@@ -1,7 +1,8 @@
 """Calls the static library from Python. It takes it as a shared one:
 
-    rt staticlib varitmol
-    gcc -shared -o target/libvaritmol.so -Wl,--whole-archive target/staticlib/libvaritmol.a -Wl,--no-whole-archive
+    (cd crates/varitmol && rt lib)
+    mkdir -p target
+    gcc -shared -o target/libvaritmol.so -Wl,--whole-archive crates/varitmol/out/libvaritmol.a -Wl,--no-whole-archive
 
 A slice is two arguments, a buffer and its length; the parameters' order is that of include/varitmol.h.
 """
@@ -11,7 +12,7 @@ import time
 
 from complaints import end
 
-MAKE = "in the repository's root: rt staticlib varitmol, then the gcc command of tools/library.py"
+MAKE = "rt lib in crates/varitmol, then the gcc command of tools/library.py in the repository's root"
 
 
 class Answer(ctypes.Structure):

@@ -13,13 +13,13 @@ fn main() {
     let here = PathBuf::from(env::var_os("CARGO_MANIFEST_DIR").unwrap_or_default());
     let folder = match env::var_os("VARITMOL_LIB_DIR") {
         Some(named) => PathBuf::from(named),
-        None => here.join("../../target/staticlib"),
+        None => here.join("../../crates/varitmol/out"),
     };
     let archive = folder.join("libvaritmol.a");
     println!("cargo::rerun-if-changed={}", archive.display());
     if !archive.is_file() {
         println!(
-            "cargo::error=there is no {}: run `rt staticlib varitmol` in the repository's root, or let VARITMOL_LIB_DIR name the folder of libvaritmol.a",
+            "cargo::error=there is no {}: run `rt lib` in crates/varitmol, or let VARITMOL_LIB_DIR name the folder of libvaritmol.a",
             archive.display()
         );
         return;

@@ -24,8 +24,8 @@
 //! What is refused comes back as a [`Refusal`]; what was left out comes back with the result, as an [`Encoded`] or a [`Decoded`], out of which
 //! the value cannot be taken without its count.
 //!
-//! The crate links `libvaritmol.a`, which `rt staticlib varitmol` makes in the repository's root. `VARITMOL_LIB_DIR` names another folder to
-//! look for it.
+//! The crate links `libvaritmol.a`, which `rt lib` in crates/varitmol makes as crates/varitmol/out/libvaritmol.a. `VARITMOL_LIB_DIR` names
+//! another folder to look for it.
 
 #[allow(unsafe_code)]
 mod ffi;
