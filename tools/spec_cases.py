@@ -16,8 +16,8 @@ as too large ones, count as failed; the first of each reason is named with it. T
 'N passed, M failed'.
 """
 import argparse
+import concurrent.futures
 import json
-import os
 import pathlib
 import re
 import shutil
@@ -31,20 +31,15 @@ NONE = 4294967295
 CASES_A_CRATE = 400
 
 HEADER = """\
-use Prim.Native.Nat.{ℕ, _/_, _%_, _^_}
-use mathlib.Core.Path.{_≡_, refl}
-use mathlib.Core.Bool.{Bool, true, false}
-use mathlib.Core.List.{List, [], _∷_, _++_}
-use lib.Dec.{eqb}
-use lib.ListN.{length, getD, take, drop, replicate}
-use Rattle·utf8.specs.Lists.{same}
-use Rattle·model.specs.Model.{Model, TokenList}
-use Rattle·model.specs.declared.Step.{Step}
-use Rattle·model.specs.declared.Step.the-variants.{Prepend, Replace, CollapseSpaces, Strip}
-use Rattle·model.specs.declared.Metaspace.{Metaspace}
-use Rattle·model.specs.declared.Metaspace.the-variants.{Absent, Present}
-use Rattle·model.specs.declared.PrependScheme.the-variants as scheme
-use Rattle·theorems.specs.Cases.{Call, check, normalise, encode, fragments, decode, prepare, Lent, Case, Left, left, sameAnswer, agrees}
+use Rattle.std.specs.Prelude.{ℕ, ◌/◌, ◌%◌, ◌^◌, ◌≡◌, refl, Bool, true, false, List, [], ◌∷◌, ◌++◌, eqb, length, get_or, take, drop, replicate}
+use Rattle.utf8.specs.Lists.{same}
+use Rattle.model.specs.Model.{Model, TokenList}
+use Rattle.model.specs.declared.Step.{Step}
+use Rattle.model.specs.declared.Step.TheVariants.{Prepend, Replace, CollapseSpaces, Strip}
+use Rattle.model.specs.declared.Metaspace.{Metaspace}
+use Rattle.model.specs.declared.Metaspace.TheVariants.{Absent, Present}
+use Rattle.model.specs.declared.PrependScheme.TheVariants as scheme
+use Rattle.theorems.specs.Cases.{Call, check, normalise, encode, fragments, decode, prepare, Lent, Case, Left, left, same_answer, agrees}
 
 """
 
@@ -124,10 +119,10 @@ def model_text(m):
         name, split = m["metaspace"]
         metaspace = f"Present scheme.{name.capitalize()} {flag(split)}"
     columns = {
-        "pieceBytes": octets(m["piece_bytes"]), "pieceOffsets": runs(m["piece_offsets"]), "lookup": runs(m["lookup"]),
+        "piece_bytes": octets(m["piece_bytes"]), "piece_offsets": runs(m["piece_offsets"]), "lookup": runs(m["lookup"]),
         "fallback": runs(fallback), "left": runs(m["left"]), "right": runs(m["right"]), "result": runs(m["result"]),
         "rank": runs(m["rank"]), "first": token_list(m["first"]), "second": token_list(m["second"]),
-        "stepBytes": octets(m["step_bytes"]), "steps": runs(steps), "stepCount": str(len(m["steps"])),
+        "step_bytes": octets(m["step_bytes"]), "steps": runs(steps), "step_count": str(len(m["steps"])),
         "metaspace": metaspace,
     }
     return "record { " + "; ".join(f"{k} = {v}" for k, v in columns.items()) + " }"
@@ -141,7 +136,7 @@ def cells(value):
 
 def lent(out, scratch):
     a, b = scratch or ([], [])
-    return f"record {{ out = {runs(out)}; scratchA = {runs(a)}; scratchB = {runs(b)} }}"
+    return f"record {{ out = {runs(out)}; scratch_a = {runs(a)}; scratch_b = {runs(b)} }}"
 
 
 class One:
@@ -149,7 +144,7 @@ class One:
 
     def __init__(self, line, number, model, call):
         self.line, self.number, self.model, self.op = line, number, model, call["op"]
-        self.name = f"case-{line}-{number}"
+        self.name = f"case_{line}_{number}"
         if self.op in ("check", "prepare"):
             self.call = self.op
         elif self.op == "normalise":
@@ -173,14 +168,14 @@ class One:
         number, place, written, drops, skips = self.answer
         answer = f"record {{ number = {number}; place = {place}; written = {written}; drops = {drops}; skips = {skips} }}"
         if self.op == "prepare":
-            tests = {"answer": f"sameAnswer (l .answer) ({answer})"}
-            tests.update({part: f"same (l .after .{part}) {runs(row)}" for part, row in self.buffers().items()})
-            return {f"{self.name}-{part}": self.question(f"{self.name}-{part}", test) for part, test in tests.items()}
+            tests = {"answer": f"same_answer l.answer ({answer})"}
+            tests.update({part: f"same l.after.{part} {runs(row)}" for part, row in self.buffers().items()})
+            return {f"{self.name}_{part}": self.question(f"{self.name}_{part}", test) for part, test in tests.items()}
         return {self.name: f"{self.name} : agrees (record {{ model = {self.model}; call = {self.call}; before = {self.before}; "
                            f"answer = {answer}; after = {self.after} }}) ≡ true\nunfolding agrees {self.model}\n{self.name} = refl\n\n"}
 
     def buffers(self):
-        return dict(zip(("out", "scratchA", "scratchB"), [self.out, *self.scratch]))
+        return dict(zip(("out", "scratch_a", "scratch_b"), [self.out, *self.scratch]))
 
     def question(self, name, test):
         """An equation that holds exactly if the test of what the definitions leave, called `l`, is true."""
@@ -194,19 +189,19 @@ class Repository:
     def __init__(self, folder, jobs):
         self.folder, self.jobs, self.crates = folder, jobs, 0
         # the crate that says what a case is, and those it uses: no program and no code that cases have no use for
-        uses = dict(re.findall(r"^(\w+):(.*)", (ROOT / "crates.txt").read_text(), re.M))
+        uses = dict(re.findall(r"^(\w+)[^:\n]*:(.*)", (ROOT / "crates.txt").read_text(), re.M))
         needed = uses["theorems"].split() + ["theorems"]
         self.libraries = " ".join(needed)
         self.listed = "".join(f"{n}:{uses[n]}\n" for n in needed)
         for name in needed:
-            shutil.copytree(ROOT / "crates" / name, folder / "crates" / name)
-        if (ROOT / "target").is_dir():
-            shutil.copytree(ROOT / "target", folder / "target", symlinks=True)
+            shutil.copytree(ROOT / "crates" / name, folder / "crates" / name, ignore=shutil.ignore_patterns("out", "must-fail"))
 
-    def rt(self, names):
-        environment = dict(os.environ, RT_CUT="0", RT_JOBS=str(self.jobs))
-        return subprocess.run(["rt", "check", *names], cwd=self.folder, env=environment, stdout=subprocess.PIPE,
-                              stderr=subprocess.STDOUT, text=True)
+    def rt(self, name):
+        """Checks a crate of cases: whether it is proved, and what was said. What it stands on is proved first, over what checks here kept."""
+        ran = subprocess.run(["rt", "check", "--jobs", "1"], cwd=self.folder / "crates" / name, stdout=subprocess.PIPE, stderr=subprocess.STDOUT,
+                             text=True)
+        verdicts = re.findall(r"^logic=.*", ran.stdout, re.M)
+        return ran.returncode == 0 and bool(verdicts) and verdicts[-1].startswith("logic=proved "), ran.stdout
 
     def prove(self, groups):
         """Each group is model texts by name and equations by name. Answers for each the names that were refused, each with its reason,
@@ -218,7 +213,7 @@ class Repository:
             crate = self.folder / "crates" / name
             (crate / "src").mkdir(parents=True)
             (crate / "specs").mkdir()
-            (crate / "src" / "lib.rt").write_text("// Cases.\n")
+            (crate / "src" / "lib.rt").write_text("// Cases.\n\n#![tactic(auto)]\n")
             (crate / "specs" / "Lib.antt").write_text("pub mod Cases\n")
             text, starts = HEADER, []
             for m, body in models.items():
@@ -233,16 +228,16 @@ class Repository:
             lines.append(starts)
         with open(self.folder / "crates.txt", "w") as f:
             f.write(self.listed + "".join(f"{n}: {self.libraries}\n" for n in names))
-        run = self.rt(names)
+        # the first proves what all stand on
+        with concurrent.futures.ThreadPoolExecutor(self.jobs) as pool:
+            ran = [self.rt(names[0]), *pool.map(self.rt, names[1:])]
         verdicts = []
-        for name, starts in zip(names, lines):
-            log = self.folder / "target" / "log" / f"{name}.out"
-            said = log.read_text() if log.exists() else run.stdout
-            if re.search(r"^logic=proved ", said, re.M):
+        for (proved, said), starts in zip(ran, lines):
+            if proved:
                 verdicts.append(({}, None))
                 continue
             refused, other = {}, None
-            for place, reason in re.findall(rf"crates/{name}/specs/Cases\.antt:(\d+):\d+: error: (.*)", said):
+            for place, reason in re.findall(r"^\./specs/Cases\.antt:(\d+):\d+: error: (.*)", said, re.M):
                 owner = [e for at, e in starts if at <= int(place)]
                 if owner:
                     refused.setdefault(owner[-1], reason)
@@ -280,10 +275,10 @@ FIELDS = ("number", "place", "written", "drops", "skips")
 
 def known_bits(repository, case, models, terms, width):
     """The value of each term, by a question for each bit."""
-    equations = {f"bit-{i}-{k}": case.question(f"bit-{i}-{k}", f"eqb (({t}) / (2 ^ {k}) % 2) 1")
+    equations = {f"bit_{i}_{k}": case.question(f"bit_{i}_{k}", f"eqb (({t}) / (2 ^ {k}) % 2) 1")
                  for i, t in enumerate(terms) for k in range(width)}
     no = judge(repository, [(models, equations)])
-    return [sum(1 << k for k in range(width) if f"bit-{i}-{k}" not in no) for i in range(len(terms))]
+    return [sum(1 << k for k in range(width) if f"bit_{i}_{k}" not in no) for i in range(len(terms))]
 
 
 def first_difference(repository, case, models, buffer, expected):
@@ -291,8 +286,8 @@ def first_difference(repository, case, models, buffer, expected):
     start, stop = 0, len(expected)
     while stop - start > 1:
         size = -(-(stop - start) // 8)
-        parts = {f"part-{at}": (at, min(at + size, stop)) for at in range(start, stop, size)}
-        equations = {name: case.question(name, f"same (take {e - a} (drop {a} (l .after .{buffer}))) {runs(expected[a:e])}")
+        parts = {f"part_{at}": (at, min(at + size, stop)) for at in range(start, stop, size)}
+        equations = {name: case.question(name, f"same (take {e - a} (drop {a} l.after.{buffer})) {runs(expected[a:e])}")
                      for name, (a, e) in parts.items()}
         no = judge(repository, [(models, equations)])
         wrong = [parts[name] for name in parts if name in no]
@@ -304,21 +299,21 @@ def first_difference(repository, case, models, buffer, expected):
 
 def explain(repository, case, models):
     """In words: each part of the answer or buffer that differs."""
-    wanted = {f"l .answer .{f}": v for f, v in zip(FIELDS, case.answer)}
+    wanted = {f"l.answer.{f}": v for f, v in zip(FIELDS, case.answer)}
     for b, expected in case.buffers().items():
-        wanted[f"length (l .after .{b})"] = len(expected)
+        wanted[f"length l.after.{b}"] = len(expected)
         places = first_difference(repository, case, models, b, expected) if case.op == "prepare" else range(len(expected))
-        wanted.update({f"getD (l .after .{b}) {i} 0": expected[i] for i in places})
+        wanted.update({f"get_or l.after.{b} {i} 0": expected[i] for i in places})
     terms = list(wanted)
-    equations = {f"same-{i}": case.question(f"same-{i}", f"eqb ({t}) {wanted[t]}") for i, t in enumerate(terms)}
+    equations = {f"same_{i}": case.question(f"same_{i}", f"eqb ({t}) {wanted[t]}") for i, t in enumerate(terms)}
     no = judge(repository, [(models, equations)])
-    wrong = [t for i, t in enumerate(terms) if f"same-{i}" in no][:8]
+    wrong = [t for i, t in enumerate(terms) if f"same_{i}" in no][:8]
     values = known_bits(repository, case, models, wrong, 32)
     def shown(term):
-        found = re.match(r"getD \(l \.after \.(\w+)\) (\d+) 0", term)
+        found = re.match(r"get_or l\.after\.(\w+) (\d+) 0", term)
         if found:
             return f"{found[1]}[{found[2]}]"
-        return term.replace("l .answer .", "").replace("l .after .", "")
+        return term.replace("l.answer.", "").replace("l.after.", "")
     return [f"{shown(t)}: the definitions give {v}, the file says {wanted[t]}" for t, v in zip(wrong, values)]
 
 
@@ -335,7 +330,7 @@ def main():
             continue
         try:
             entry = json.loads(text)
-            model = f"model-{line}"
+            model = f"model_{line}"
             models[model] = model_text(entry["model"])
             cases += [One(line, number, model, call) for number, call in enumerate(entry["calls"], 1)]
         except (KeyError, TypeError, ValueError) as fault:
