@@ -21,7 +21,8 @@ def crates():
     used = {}
     for line in (ROOT / "crates.txt").read_text().splitlines():
         if line and not line.startswith("#"):
-            name, _, names = line.partition(":")
+            words, _, names = line.partition(":")
+            name = words.split()[0]
             used[name] = [n for n in names.split() if n not in KIT]
     missing = sorted({n for names in used.values() for n in names} - set(used))
     if missing:
