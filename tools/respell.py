@@ -4,8 +4,9 @@
 usage: tools/respell.py [--dry]        at the top of the repository, after the kit's port.py, once
 
 Every name that specs/ and proofs/ define in camel case becomes snake case, and so does every local name and field there. In the name of a
-lemma a dash stays where it stands between two names, and becomes `_` beside a plain word. Functions of src/, types, modules, strings, inputs and outputs
-keep their names. It stops, and writes nothing, where two names of a file would fall together.
+lemma a dash stays where it stands between two names, and becomes `_` beside a plain word. Functions of src/, types, modules, inputs and outputs
+keep their names. It stops, and writes nothing, where two names of a file would fall together. It reads the text of a file whole: what it turns in
+the strings of src/, as `\\xC3`, has to be turned back by hand.
 """
 
 import os

@@ -13,9 +13,9 @@ use lib.ListN.{length, get_or, get_or-append}
 use lib.Seq.{get_or-append-add}
 use Rattle.utf8.specs.Lists.{is_empty, any, find, same, take_while, below}
 use Rattle.utf8.proofs.Tests.{clash, and_left, and_right, or_left, or_right}
-use Rattle.utf8.proofs.Places.{all_holds, get_d_count_from}
+use Rattle.utf8.proofs.Places.{all_holds, get_or_count_from}
 use Rattle.utf8.proofs.Starts.{same-eq}
-use Rattle.utf8.proofs.Fronts.{front-within, front_passes, front-ended, front-past, get_d_row, length-row}
+use Rattle.utf8.proofs.Fronts.{front-within, front_passes, front-ended, front-past, get_or_row, length-row}
 use Rattle.model.specs.Model.{Model, piece, lookup_id, no_id, pieces_of, merge_rows, row_of}
 use Rattle.model.specs.Mark.{mark}
 use Rattle.model.specs.ByteOrder.{byte_order}
@@ -101,14 +101,14 @@ module _ (pieces : List (List ℕ)) (lookup : List ℕ) where
   unfolding piece_index first_bytes
   first-at b h =
       get_or-append (first_bytes pieces lookup) (byte_ids pieces lookup) 0 b (omega (arith, length-first_bytes))
-      ∙ get_d_row (first_byte_start pieces lookup) first_byte_words b 0 h
+      ∙ get_or_row (first_byte_start pieces lookup) first_byte_words b 0 h
 
   byte_at : (b : ℕ) → b < 256 → byte_word (piece_index pieces lookup) b ≡ byte_id pieces lookup b
   unfolding byte_word piece_index byte_ids
   byte_at b h =
       ap (λ (n : ℕ). get_or (piece_index pieces lookup) (n + b) 0) (sym length-first_bytes)
       ∙ get_or-append-add (first_bytes pieces lookup) (byte_ids pieces lookup) b 0
-      ∙ get_d_row (byte_id pieces lookup) 256 b 0 h
+      ∙ get_or_row (byte_id pieces lookup) 256 b 0 h
 
   -- the piece of an entry
   abbrev entry : ℕ → List ℕ
@@ -178,7 +178,7 @@ module _ (left : List ℕ) (shift : ℕ) where
   unfolding row_index buckets
   bucket_at right rank b h =
       get_or-append (buckets left shift) (pair_tables left right rank) 0 b (omega (arith, length-buckets))
-      ∙ get_d_row (bucket_start left shift) bucket_words b 0 h
+      ∙ get_or_row (bucket_start left shift) bucket_words b 0 h
 
   -- The words of the two tables behind the buckets.
   module _ (right rank : List ℕ) where
@@ -411,7 +411,7 @@ shift_room n h = by_below s 7 fits last
     s = length (take_while test (below 7))
 
     fits : s < 7 → n ≤ 4096 * 2 ^ s
-    fits l = ltb-false (4096 * 2 ^ s) n (ap test (sym (get_d_count_from 0 7 s 0 l ∙ zero-add s)) ∙ front-ended test (below 7) 0 l)
+    fits l = ltb-false (4096 * 2 ^ s) n (ap test (sym (get_or_count_from 0 7 s 0 l ∙ zero-add s)) ∙ front-ended test (below 7) 0 l)
 
     last : 7 ≤ s → n ≤ 4096 * 2 ^ s
     last g =

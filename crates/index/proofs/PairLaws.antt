@@ -10,8 +10,8 @@ use lib.Dec.{ltb, leb, eqb}
 use lib.ListN.{length, get_or}
 use Rattle.utf8.specs.Lists.{any, filter, below}
 use Rattle.utf8.proofs.Tests.{clash, or_left, or_right, or_also}
-use Rattle.utf8.proofs.Places.{any-one, any_none, length-count_from, get_d_count_from}
-use Rattle.utf8.proofs.Fronts.{length-row, get_d_row}
+use Rattle.utf8.proofs.Places.{any-one, any_none, length-count_from, get_or_count_from}
+use Rattle.utf8.proofs.Fronts.{length-row, get_or_row}
 use Rattle.index.specs.Index.{slot_count, pair_slot, second_slot_count, second_slot, row_slot, slot_rows, lowest_row, slot_word, shared, named_row, table_words, pair_words, unnamed, second_words}
 
 -- ---- rows that a test keeps
@@ -23,14 +23,14 @@ among rows i = any (λ (k : ℕ). eqb k i) rows
 pub among_all : (n i : ℕ) → i < n → among (below n) i ≡ true
 among_all n i h =
     any-one (λ (k : ℕ). eqb k i) (below n) i 0 (omega (arith, length-count_from 0 n))
-    (rw (get_d_count_from 0 n i 0 h, zero-add i) (eq-eqb i i refl))
+    (rw (get_or_count_from 0 n i 0 h, zero-add i) (eq-eqb i i refl))
 
 pub none_beyond : (n : ℕ) → any (leb n) (below n) ≡ false
 none_beyond n =
     any_none (leb n) (below n) 0
     (λ i h.
     let l : i < n = omega (arith, length-count_from 0 n) in
-    rw (get_d_count_from 0 n i 0 l, zero-add i) (lt-leb n i l))
+    rw (get_or_count_from 0 n i 0 l, zero-add i) (lt-leb n i l))
 
 module _ (test : ℕ → Bool) where
   pub kept : (rows : List ℕ) (i : ℕ) → among rows i ≡ true → test i ≡ true → among (filter test rows) i ≡ true
@@ -117,7 +117,7 @@ module _ (spread : ℕ → ℕ → ℕ) (count : ℕ) (left right rank rows : Li
 
   pub table_at : (slot : ℕ) → slot < count → get_or (table_words spread count left right rank rows) slot 0 ≡ slot_word rank (slot_rows spread left right rows slot)
   unfolding table_words
-  table_at slot h = get_d_row (λ (slot : ℕ). slot_word rank (slot_rows spread left right rows slot)) count slot 0 h
+  table_at slot h = get_or_row (λ (slot : ℕ). slot_word rank (slot_rows spread left right rows slot)) count slot 0 h
 
 module _ (left right rank : List ℕ) where
   pub length_pairs : length (pair_words left right rank) ≡ slot_count

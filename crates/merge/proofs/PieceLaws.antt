@@ -12,7 +12,7 @@ use lib.ListN.{length, get_or, length-append, get_or-eq_default}
 use Rattle.utf8.specs.Lists.{is_empty, all, any, join, join_map, numbered, zip, same}
 use Rattle.utf8.proofs.Tests.{clash, and_left, and_right, and_both, or_left, or_right}
 use Rattle.utf8.proofs.Lists.{join-append, all_append}
-use Rattle.utf8.proofs.Places.{any_append, all_holds, length-zip, get_d_zip, length-numbered, get_d_numbered}
+use Rattle.utf8.proofs.Places.{any_append, all_holds, length-zip, get_or_zip, length-numbered, get_or_numbered}
 use Rattle.utf8.proofs.Starts.{same-eq, not-empty}
 use Rattle.utf8.proofs.Elements.{all_join, all_one, map-one, not-empty-long}
 use Rattle.utf8.proofs.Joins.{find-some, join_map-append, join_map-join}
@@ -59,8 +59,8 @@ module _ (m : Model) (ok : Accepted m) where
         let results : i < length m.result = omega (arith, ok.sizes.rows.results) in
         let both : i < length (zip (zip m.left m.right) m.result) = rw (length-zip, length-zip) (omega arith) in
         let at =
-        get_d_zip (zip m.left m.right) m.result i (0, 0) 0 (rw length-zip (omega arith)) results
-        ∙ ap {B = (ℕ × ℕ) × ℕ} (λ (p : ℕ × ℕ). (p, get_or m.result i 0)) (get_d_zip m.left m.right i 0 0 inside rights) in
+        get_or_zip (zip m.left m.right) m.result i (0, 0) 0 (rw length-zip (omega arith)) results
+        ∙ ap {B = (ℕ × ℕ) × ℕ} (λ (p : ℕ × ℕ). (p, get_or m.result i 0)) (get_or_zip m.left m.right i 0 0 inside rights) in
         same-eq (piece (pieces_of m) (get_or m.result i 0)) (piece (pieces_of m) (get_or m.left i 0) ++ piece (pieces_of m) (get_or m.right i 0))
         (ap result_joins (sym at) ∙ all_holds result_joins (zip (zip m.left m.right) m.result) i ((0, 0), 0) ok.rows_joined both)
 
@@ -182,7 +182,7 @@ module _ (m : Model) (ok : Accepted m) where
           clash q (eq-eqb (get_or m.fallback b no_id) no_id (get_or-eq_default m.fallback no_id (ltb-false b (length m.fallback) p)))
       go true false p q e =
           let inside = ltb-true b (length m.fallback) p in
-          let at = get_d_numbered m.fallback b 0 no_id inside in
+          let at = get_or_numbered m.fallback b 0 no_id inside in
           let fits : (eqb (get_or m.fallback b no_id) no_id || ltb (get_or m.fallback b no_id) (length (pieces_of m)) && same (piece (pieces_of m) (get_or m.fallback b no_id)) (b ∷ [])) ≡ true =
           ap (fallback_fits (pieces_of m)) (sym at) ∙ all_holds (fallback_fits (pieces_of m)) (numbered m.fallback) b (0, no_id) ok.fallback_fit (omega (arith, length-numbered m.fallback)) in
           let known = ap (λ (t : Bool). t || ltb (get_or m.fallback b no_id) (length (pieces_of m)) && same (piece (pieces_of m) (get_or m.fallback b no_id)) (b ∷ [])) (sym q) ∙ fits in

@@ -13,7 +13,7 @@ use lib.ListN.{length, drop, get_or, set, drop_of_length-le, get_or-eq_default}
 use lib.Seq.{drop-cons}
 use Rattle.utf8.specs.Lists.{any, same}
 use Rattle.utf8.proofs.Tests.{either}
-use Rattle.utf8.proofs.Places.{any_next, any_found, get_d_inside}
+use Rattle.utf8.proofs.Places.{any_next, any_found, get_or_inside}
 use Rattle.model.specs.declared.Found.{Found}
 use Rattle.model.specs.declared.Found.TheVariants.{At, Nothing}
 use Rattle.model.specs.Model.{strings, no_id, fallback_id}
@@ -78,7 +78,7 @@ fallback-below fallback b {f} {id} small told e = go (eqb entry no_id) (sym told
 
     below : entry < 4294967296
     below =
-        ⊎_elim (λ t. rw (get_d_inside fallback b no_id 0 (ltb-true b (length fallback) t)) small)
+        ⊎_elim (λ t. rw (get_or_inside fallback b no_id 0 (ltb-true b (length fallback) t)) small)
         (λ t. rw (get_or-eq_default fallback no_id {n = b} (ltb-false b (length fallback) t)) (omega arith))
         (either (ltb b (length fallback)))
 

@@ -12,7 +12,7 @@ use lib.ListN.{length, take, drop, get_or, set, length-append, length-drop, take
 use lib.Seq.{drop-cons, take_at, drop_at, take-suc-set, drop-set-lt, length-take-le, get_or-drop, set_at, append_snoc}
 use Rattle.utf8.proofs.Writing.{Begins, Written, written-length, written_byte, written-ended}
 use Rattle.utf8.specs.Lists.{neighbours}
-use Rattle.utf8.proofs.Places.{length-neighbours, get_d_neighbours}
+use Rattle.utf8.proofs.Places.{length-neighbours, get_or_neighbours}
 use Rattle.model.specs.declared.Found.{Found}
 use Rattle.model.specs.declared.Found.TheVariants.{At, Nothing}
 use Rattle.model.specs.Model.{Row}
@@ -100,7 +100,7 @@ module _ (row : ℕ → ℕ → Option Row) (ids : List ℕ) where
   turn_at_lem p h =
       let inside : p < length (neighbours ids) = omega (arith, length-neighbours ids) in
       let rest = candidates_from row (suc p) (drop (suc p) (neighbours ids)) in
-      rw (drop-cons (neighbours ids) p (0, 0) inside, get_d_neighbours ids p 0 0 h)
+      rw (drop-cons (neighbours ids) p (0, 0) inside, get_or_neighbours ids p 0 0 h)
       (ap turn_of (lowest-append (candidate_at p (row (get_or ids p 0) (get_or ids (p + 1) 0))) rest)
       ∙ turn_lower (lowest_rank (candidate_at p (row (get_or ids p 0) (get_or ids (p + 1) 0)))) (lowest_rank rest)
       ∙ rw (turn_one p (row (get_or ids p 0) (get_or ids (p + 1) 0)), add-one p))

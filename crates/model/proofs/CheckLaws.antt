@@ -12,7 +12,7 @@ use lib.Dec.{eqb, ltb}
 use lib.ListN.{length, get_or, take, drop, length-take, drop_of_length-le, get_or-eq_default}
 use lib.Seq.{drop-cons, get_or-take}
 use Rattle.utf8.specs.Lists.{any, same}
-use Rattle.utf8.proofs.Places.{any_append, get_d_inside}
+use Rattle.utf8.proofs.Places.{any_append, get_or_inside}
 use Rattle.model.specs.Model.{piece, no_id, fallback_id, spans_of}
 use Rattle.model.specs.Check.{pair_too_long, pair_rises, fallback_fits, step_spans}
 use Rattle.model.specs.declared.Span.{Span}
@@ -94,8 +94,8 @@ module _ (fallback : List ℕ) (byte : ℕ) where
 
   pub fallback-none : byte < length fallback → get_or fallback byte 0 ≡ no_id → fallback_id fallback byte ≡ none
   unfolding fallback_id
-  fallback-none h e = rw (get_d_inside fallback byte no_id 0 h, eq-eqb (get_or fallback byte 0) no_id e)
+  fallback-none h e = rw (get_or_inside fallback byte no_id 0 h, eq-eqb (get_or fallback byte 0) no_id e)
 
   pub fallback-some : (id : ℕ) → byte < length fallback → (get_or fallback byte 0 ≡ no_id → ⊥) → id ≡ get_or fallback byte 0 → some id ≡ fallback_id fallback byte
   unfolding fallback_id
-  fallback-some id h e i = rw (get_d_inside fallback byte no_id 0 h, ne_eqb (get_or fallback byte 0) no_id e, i)
+  fallback-some id h e i = rw (get_or_inside fallback byte no_id 0 h, ne_eqb (get_or fallback byte 0) no_id e, i)

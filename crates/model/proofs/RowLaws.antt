@@ -9,7 +9,7 @@ use borrow.Author.Tests.{lt-ltb, le-ltb, eq-eqb, ne_eqb}
 use lib.Dec.{ltb, eqb}
 use lib.ListN.{length, get_or, drop, length-map, get_or-map}
 use Rattle.utf8.specs.Lists.{all, neighbours, zip, same, below}
-use Rattle.utf8.proofs.Places.{length-zip, get_d_zip, get_d_inside, length-count_from, get_d_count_from, all-next, all_broken, all-ended, all_pair_next, all_pair_broken, all_pair_ended, all_pair_holds}
+use Rattle.utf8.proofs.Places.{length-zip, get_or_zip, get_or_inside, length-count_from, get_or_count_from, all-next, all_broken, all-ended, all_pair_next, all_pair_broken, all_pair_ended, all_pair_holds}
 use Rattle.model.specs.declared.Order.{Order}
 use Rattle.model.specs.declared.Order.TheVariants.{Less, Equal}
 use Rattle.model.specs.Model.{strings, piece, Row, rows_of, row_of}
@@ -53,7 +53,7 @@ module _ (left right : List ℕ) where
 
     before-next : i + 1 < length left → i + 1 < length right → pair_before (get_or (zip left right) i (0, 0)) (get_or (zip left right) (i + 1) (0, 0)) ≡ is_less next_order
     before-next h k =
-        rw (get_d_zip left right i 0 0 (omega arith) (omega arith), get_d_zip left right (i + 1) 0 0 h k)
+        rw (get_or_zip left right i 0 0 (omega arith) (omega arith), get_or_zip left right (i + 1) 0 0 h k)
         (before-is_less (get_or left i 0, get_or right i 0) (get_or left (i + 1) 0, get_or right (i + 1) 0))
 
     pub ascend_next : i + 1 < length left → i + 1 < length right → is_less next_order ≡ true → ascend_from left right i ≡ ascend_from left right (i + 1)
@@ -86,7 +86,7 @@ module _ (pieces : List (List ℕ)) (left right result : List ℕ) where
 
   module _ (i : ℕ) where
     row-at : i < length left → i < length right → i < length result → get_or (zip (zip left right) result) i ((0, 0), 0) ≡ ((get_or left i 0, get_or right i 0), get_or result i 0)
-    row-at h k l = get_d_zip (zip left right) result i (0, 0) 0 (rw length-zip (omega arith)) l ∙ rw (get_d_zip left right i 0 0 h k)
+    row-at h k l = get_or_zip (zip left right) result i (0, 0) 0 (rw length-zip (omega arith)) l ∙ rw (get_or_zip left right i 0 0 h k)
 
     inside : i < length left → i < length right → i < length result → i < length (zip (zip left right) result)
     inside h k l = rw (length-zip, length-zip) (omega arith)
@@ -152,9 +152,9 @@ module _ (left right result rank : List ℕ) where
   pub row_is : (i : ℕ) (d : Row) → i < length left → get_or (rows_of left right result rank) i d ≡ record { left = get_or left i 0; right = get_or right i 0; result = get_or result i 0; rank = get_or rank i 0 }
   unfolding rows_of row_at
   row_is i d h =
-      get_d_inside (map row_at (below (length left))) i d (row_at 0) (omega (arith, length-rows))
+      get_or_inside (map row_at (below (length left))) i d (row_at 0) (omega (arith, length-rows))
       ∙ get_or-map row_at (below (length left)) i 0
-      ∙ ap row_at (get_d_count_from 0 (length left) i 0 h ∙ zero-add i)
+      ∙ ap row_at (get_or_count_from 0 (length left) i 0 h ∙ zero-add i)
 
   -- A search among rows that ascend gives the row of the pair.
   pub row_found_lem : rows_ascend left right ≡ true → length right ≡ length left → (l r : ℕ) → row_found (rows_of left right result rank) (found_row left right l r) ≡ row_of (rows_of left right result rank) l r

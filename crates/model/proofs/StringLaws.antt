@@ -11,7 +11,7 @@ use lib.ListN.{length, get_or, take, drop, length-take, length-drop}
 use lib.Seq.{slice}
 use Rattle.utf8.specs.Lists.{any}
 use Rattle.utf8.proofs.Tests.{either}
-use Rattle.utf8.proofs.Places.{length-between, get_d_between, get_d_between-past, any_found, any_next, any-ended}
+use Rattle.utf8.proofs.Places.{length-between, get_or_between, get_or_between-past, any_found, any_next, any-ended}
 use Rattle.model.specs.Model.{strings}
 
 module _ (bytes offsets : List ℕ) where
@@ -21,11 +21,11 @@ module _ (bytes offsets : List ℕ) where
 
   pub string_is : (i : ℕ) → i + 1 < length offsets → get_or (strings bytes offsets) i [] ≡ slice (get_or offsets i 0) (get_or offsets (i + 1) 0) bytes
   unfolding strings
-  string_is i h = get_d_between offsets bytes i h
+  string_is i h = get_or_between offsets bytes i h
 
   pub string_past : (i : ℕ) → length offsets ≤ i + 1 → get_or (strings bytes offsets) i [] ≡ []
   unfolding strings
-  string_past i h = get_d_between-past offsets bytes i h
+  string_past i h = get_or_between-past offsets bytes i h
 
   -- No string is longer than the bytes it lies in.
   pub string_short : (i : ℕ) → length (get_or (strings bytes offsets) i []) ≤ length bytes

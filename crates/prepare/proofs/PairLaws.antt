@@ -12,7 +12,7 @@ use lib.ListN.{length, get_or, take, set, length-append, get_or-append}
 use lib.Seq.{take_at, length-take-le, get_or-append-add}
 use Rattle.utf8.specs.Lists.{all, filter, count_from, below}
 use Rattle.utf8.proofs.Tests.{and_left, and_right, and_both}
-use Rattle.utf8.proofs.Fronts.{get_d_row}
+use Rattle.utf8.proofs.Fronts.{get_or_row}
 use Rattle.model.specs.Answers.{zeros}
 use Rattle.index.specs.Index.{pair_slot, second_slot, row_slot, slot_rows, lowest_row, shared, slot_word, named_row, table_words, pair_words, is_unnamed, unnamed, second_words}
 use Rattle.index.proofs.PairLaws.{length-table}
@@ -163,7 +163,7 @@ module _ (spread : ℕ → ℕ → ℕ) (left right rank : List ℕ) where
         → set words slot word ≡ table_words spread n left right rank (rows ++ (i ∷ []))
     unfolding table_words word_of
     table-next rows words i slot word is few h s w =
-        let old : get_or words slot 0 ≡ word_of rows slot = ap (λ (l : List ℕ). get_or l slot 0) is ∙ get_d_row (word_of rows) n slot 0 h in
+        let old : get_or words slot 0 ≡ word_of rows slot = ap (λ (l : List ℕ). get_or l slot 0) is ∙ get_or_row (word_of rows) n slot 0 h in
         let new : word ≡ word_of (rows ++ (i ∷ [])) (0 + slot) = w ∙ ap (λ (o : ℕ). word_with rank o i) old ∙ sym (word_grows rows i slot few s) ∙ ap (word_of (rows ++ (i ∷ []))) (sym (zero-add slot)) in
         rw (is, new) (set-row (word_of rows) (word_of (rows ++ (i ∷ []))) 0 n slot h (λ j d. word_stays rows i j (λ e. d (e ∙ sym s ∙ sym (zero-add slot)))))
 

@@ -11,8 +11,8 @@ use lib.Dec.{ltb}
 use lib.ListN.{length, get_or, take, drop, set, length-set}
 use lib.Seq.{paste, paste-zero, paste-suc, take_all}
 use Rattle.utf8.specs.Lists.{take_while, below}
-use Rattle.utf8.proofs.Places.{get_d_count_from}
-use Rattle.utf8.proofs.Fronts.{front-within, front-next, front-stop, front-end, front_on, length-row, get_d_row}
+use Rattle.utf8.proofs.Places.{get_or_count_from}
+use Rattle.utf8.proofs.Fronts.{front-within, front-next, front-stop, front-end, front_on, length-row, get_or_row}
 use Rattle.model.specs.Model.{piece, no_id}
 use Rattle.model.specs.Check.{lookup_ascends}
 use Rattle.model.specs.inner.Search.{found_piece, id_at}
@@ -108,7 +108,7 @@ module _ (count : ℕ) where
 
   module _ (shift : ℕ) where
     at_seven : shift < 7 → get_or (below 7) shift 0 ≡ shift
-    at_seven h = get_d_count_from 0 7 shift 0 h ∙ zero-add shift
+    at_seven h = get_or_count_from 0 7 shift 0 h ∙ zero-add shift
 
     pub shift_next : shift < 7 → 4096 * 2 ^ shift < count → shift_from count shift ≡ shift_from count (shift + 1)
     unfolding shift_from
@@ -158,7 +158,7 @@ module _ (row : ℕ → ℕ) (n base : ℕ) (before : List ℕ) where
   module _ (words : List ℕ) (b : ℕ) (f : Filled row n base before words b) where
     pub filled_next : b < n → base + n ≤ length before → (next : ℕ) → next ≡ row b → Filled row n base before (set words (base + b) next) (b + 1)
     filled_next h room next e =
-        let value : next ≡ get_or (map row (below n)) b 0 = e ∙ sym (get_d_row row n b 0 h) in
+        let value : next ≡ get_or (map row (below n)) b 0 = e ∙ sym (get_or_row row n b 0 h) in
         record {
           inside = omega arith;
           long = length-set words (base + b) next ∙ f.long;

@@ -12,7 +12,7 @@ use lib.ListN.{length, get_or, length-map, get_or-map}
 use lib.Seq.{slice, ext_get_or}
 use Rattle.utf8.specs.Lists.{below}
 use Rattle.utf8.proofs.Tests.{either}
-use Rattle.utf8.proofs.Places.{get_d_inside, slice_none, length-count_from, get_d_count_from}
+use Rattle.utf8.proofs.Places.{get_or_inside, slice_none, length-count_from, get_or_count_from}
 use Rattle.model.specs.Model.{TokenList, Token, token_at, contents, step_string}
 use Rattle.model.proofs.StringLaws.{length-strings, string_is, string_past}
 use Rattle.sections.specs.Matches.{Match, longest_at}
@@ -50,9 +50,9 @@ module _ (t : TokenList) where
   record_is : (row : ℕ) → row < n → get_or (records_of t) row no_token ≡ at_row row
   unfolding records_of
   record_is row h =
-      get_d_inside (map at_row (below n)) row no_token (at_row 0) (omega (arith, length-map (below n) at_row, length-count_from 0 n))
+      get_or_inside (map at_row (below n)) row no_token (at_row 0) (omega (arith, length-map (below n) at_row, length-count_from 0 n))
       ∙ get_or-map at_row (below n) row 0
-      ∙ ap at_row (get_d_count_from 0 n row 0 h ∙ omega arith)
+      ∙ ap at_row (get_or_count_from 0 n row 0 h ∙ omega arith)
 
   content-is : (row : ℕ) → row < n → content_of t.bytes (get_or (records_of t) row no_token) ≡ get_or (contents t) row []
   unfolding content_of step_string contents

@@ -14,7 +14,7 @@ use lib.Seq.{drop-cons, ext_get_or, get_or-set_same, get_or-set_other}
 use Rattle.utf8.specs.Lists.{is_empty, any, filter, below, numbered_from, numbered, starts_with}
 use Rattle.utf8.proofs.Tests.{either, clash, or_left, or_right}
 use Rattle.utf8.proofs.Starts.{no_elements}
-use Rattle.utf8.proofs.Places.{get_d_inside, length-count_from, get_d_count_from, length-numbered, get_d_numbered}
+use Rattle.utf8.proofs.Places.{get_or_inside, length-count_from, get_or_count_from, length-numbered, get_or_numbered}
 use Rattle.model.specs.declared.Found.{Found}
 use Rattle.model.specs.declared.Found.TheVariants.{At, Nothing}
 use Rattle.model.specs.inner.Search.{found_id}
@@ -58,9 +58,9 @@ beginnings-at : (contents : List (List ℕ)) (n b d : ℕ) → b < n → get_or 
 unfolding beginnings
 beginnings-at contents n b d h =
     let f : ℕ → ℕ = λ b. cond (any (begins_with b) contents) 1 0 in
-    get_d_inside (map f (below n)) b d (f 0) (omega (arith, length-map (below n) f, length-count_from 0 n))
+    get_or_inside (map f (below n)) b d (f 0) (omega (arith, length-map (below n) f, length-count_from 0 n))
     ∙ get_or-map f (below n) b 0
-    ∙ ap f (get_d_count_from 0 n b 0 h ∙ omega arith)
+    ∙ ap f (get_or_count_from 0 n b 0 h ∙ omega arith)
 
 pub length-beginnings : (contents : List (List ℕ)) (n : ℕ) → length (beginnings contents n) ≡ n
 unfolding beginnings
@@ -106,7 +106,7 @@ module _ (begins : List ℕ) (b : ℕ) where
 
   pub may_at : b < length begins → may_begin begins b ≡ not (eqb (get_or begins b 0) 0)
   unfolding may_begin
-  may_at h = rw (get_d_inside begins b 1 0 h)
+  may_at h = rw (get_or_inside begins b 1 0 h)
 
 -- What such a row rules out begins no content.
 pub record Sound (begins : List ℕ) (contents : List (List ℕ)) : Type 0 where
@@ -129,7 +129,7 @@ first_sound contents n = record { none_begins = λ b e. at_byte b e }
 pub numbered-at : (contents : List (List ℕ)) (i : ℕ) → i < length contents → drop i (numbered contents) ≡ (i, get_or contents i []) ∷ drop (suc i) (numbered contents)
 numbered-at contents i h =
     drop-cons (numbered contents) i (0, []) (omega (arith, length-numbered contents))
-    ∙ ap (λ (c : ℕ × List ℕ). c ∷ drop (suc i) (numbered contents)) (get_d_numbered contents i 0 [] h)
+    ∙ ap (λ (c : ℕ × List ℕ). c ∷ drop (suc i) (numbered contents)) (get_or_numbered contents i 0 [] h)
 
 -- The longest of those from row i on.
 abbrev pub longest_from : List (List ℕ) → List ℕ → ℕ → Option (ℕ × List ℕ)

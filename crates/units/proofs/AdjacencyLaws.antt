@@ -16,7 +16,7 @@ use lib.ListN.{length, get_or, set, take, drop, length-map, length-set, length-r
 use lib.Seq.{ext_get_or, get_or-set_same, get_or-set_other, get_or-drop, drop-cons, slice}
 use Rattle.utf8.specs.Lists.{any, join_map, neighbours, neighbours_from, below}
 use Rattle.utf8.proofs.Tests.{either}
-use Rattle.utf8.proofs.Places.{any_append, get_d_inside, length-count_from, get_d_count_from, length-neighbours, get_d_neighbours}
+use Rattle.utf8.proofs.Places.{any_append, get_or_inside, length-count_from, get_or_count_from, length-neighbours, get_or_neighbours}
 use Rattle.model.specs.Model.{strings}
 use Rattle.model.specs.Answers.{zeros}
 use Rattle.units.specs.Units.{holds_pair}
@@ -36,9 +36,9 @@ module _ (f : ℕ → ℕ) (n : ℕ) where
 
   mapped_at : (i : ℕ) → i < n → get_or (map f (below n)) i 0 ≡ f i
   mapped_at i h =
-      get_d_inside (map f (below n)) i 0 (f 0) (omega (arith, mapped_length))
+      get_or_inside (map f (below n)) i 0 (f 0) (omega (arith, mapped_length))
       ∙ get_or-map f (below n) i 0
-      ∙ ap f (get_d_count_from 0 n i 0 h ∙ zero-add i)
+      ∙ ap f (get_or_count_from 0 n i 0 h ∙ zero-add i)
 
 module _ (test : ℕ → ℕ → Bool) where
   rows-length : length (rows_by test) ≡ 1024
@@ -205,7 +205,7 @@ module _ (bytes rows : List ℕ) (i : ℕ) where
   pub noted-next : i + 1 < length bytes → note_all (drop i (neighbours bytes)) rows ≡ note_all (drop (i + 1) (neighbours bytes)) (note (get_or bytes i 0, get_or bytes (i + 1) 0) rows)
   unfolding note_all
   noted-next h =
-      ap (λ (ps : List (ℕ × ℕ)). note_all ps rows) (drop-cons (neighbours bytes) i (0, 0) (omega (arith, length-neighbours bytes)) ∙ ap₂ {C = List (ℕ × ℕ)} ◌∷◌ (get_d_neighbours bytes i 0 0 h) (ap (λ (k : ℕ). drop k (neighbours bytes)) (sym (add-one i))))
+      ap (λ (ps : List (ℕ × ℕ)). note_all ps rows) (drop-cons (neighbours bytes) i (0, 0) (omega (arith, length-neighbours bytes)) ∙ ap₂ {C = List (ℕ × ℕ)} ◌∷◌ (get_or_neighbours bytes i 0 0 h) (ap (λ (k : ℕ). drop k (neighbours bytes)) (sym (add-one i))))
 
   pub noted-ended : length bytes ≤ i + 1 → note_all (drop i (neighbours bytes)) rows ≡ rows
   unfolding note_all

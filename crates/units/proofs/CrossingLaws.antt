@@ -13,7 +13,7 @@ use lib.Seq.{drop-drop, get_or-drop, get_or-take, take-length, slice}
 use Rattle.utf8.specs.Lists.{any, filter, below, count_from, starts_with}
 use Rattle.utf8.specs.Chars.{valid}
 use Rattle.utf8.proofs.Tests.{either, clash, and_left, and_right, or_right}
-use Rattle.utf8.proofs.Places.{any-one, any_found, any_next, any-ended, length-count_from, get_d_count_from}
+use Rattle.utf8.proofs.Places.{any-one, any_found, any_next, any-ended, length-count_from, get_or_count_from}
 use Rattle.utf8.proofs.Starts.{starts_front}
 use Rattle.model.specs.Mark.{mark, mark_width, starts_with_mark, ends_with_mark}
 use Rattle.units.specs.Kinds.{crosses_at, crossing_at, holds_mark, is_tangled}
@@ -27,7 +27,7 @@ use Rattle.units.proofs.NextLaws.{search_from, search_start, search_next, search
 
 module _ (test : ℕ → Bool) (n i : ℕ) where
   below_at : (b : Bool) → i < n → test i ≡ b → test (get_or (below n) i 0) ≡ b
-  below_at b h e = ap test (get_d_count_from 0 n i 0 h ∙ zero-add i) ∙ e
+  below_at b h e = ap test (get_or_count_from 0 n i 0 h ∙ zero-add i) ∙ e
 
   pub any-below_found : i < n → test i ≡ true → any test (drop i (below n)) ≡ true
   any-below_found h e = any_found test (below n) i 0 (omega (arith, length-count_from 0 n)) (below_at true h e)

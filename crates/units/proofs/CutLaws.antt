@@ -14,7 +14,7 @@ use Rattle.utf8.specs.Lists.{any, filter, last_or, neighbours, neighbours_from, 
 use Rattle.utf8.specs.Chars.{tail, char_forms, char_width, chars, is_char, valid}
 use Rattle.utf8.proofs.Tests.{either, clash, and_left, and_right, and_both, or_left, or_right, or_also}
 use Rattle.utf8.proofs.Lists.{last_or-append}
-use Rattle.utf8.proofs.Places.{any-one, get_d_count_from, length-count_from}
+use Rattle.utf8.proofs.Places.{any-one, get_or_count_from, length-count_from}
 use Rattle.utf8.proofs.Characters.{starts_in_tail}
 use Rattle.utf8.proofs.Valid.{valid-append, valid-cut}
 use Rattle.utf8.proofs.Elements.{any-false-at, any-filter, any-map, any-join_map, any_has}
@@ -46,7 +46,7 @@ crossing_tested pieces test none id k v h c =
     let here : any test (crossings_of w) ≡ false = and_rest v (any-false-at (λ (bytes : List ℕ). valid bytes && any test (crossings_of bytes)) pieces id [] listed (has_id pieces id (omega arith))) in
     let places : any (λ (p : ℕ). crosses_at w p && test (crossing_at w p)) (below (length w)) ≡ false =
     sym (any-filter (λ (p : ℕ). test (crossing_at w p)) (crosses_at w) (below (length w))) ∙ sym (any-map test (crossing_at w) (filter (crosses_at w) (below (length w)))) ∙ here in
-    let at : get_or (below (length w)) k 0 ≡ k = get_d_count_from 0 (length w) k 0 h ∙ zero-add k in
+    let at : get_or (below (length w)) k 0 ≡ k = get_or_count_from 0 (length w) k 0 h ∙ zero-add k in
     and_rest c
     (ap (λ (p : ℕ). crosses_at w p && test (crossing_at w p)) (sym at)
     ∙ any-false-at (λ (p : ℕ). crosses_at w p && test (crossing_at w p)) (below (length w)) k 0 places (omega (arith, length-count_from 0 (length w))))

@@ -14,7 +14,7 @@ use Rattle.utf8.specs.Lists.{any, filter, join_map, numbered, numbered_from, bel
 use Rattle.utf8.specs.Chars.{valid}
 use Rattle.utf8.proofs.Tests.{or_also}
 use Rattle.utf8.proofs.Elements.{any-map}
-use Rattle.utf8.proofs.Places.{any-one, any_append, length-numbered, get_d_numbered}
+use Rattle.utf8.proofs.Places.{any-one, any_append, length-numbered, get_or_numbered}
 use Rattle.model.specs.Answers.{zeros}
 use Rattle.model.specs.Model.{piece}
 use Rattle.model.specs.declared.Metaspace.{Metaspace}
@@ -157,7 +157,7 @@ notes_start pieces words e = record { few = omega arith; most = omega arith; res
 module _ (pieces : List (List ℕ)) (id n : ℕ) (words : List ℕ) (s : Notes pieces id n words) (h : id < length pieces) where
   places_here : join_map places_in (drop id (numbered pieces)) ≡ places_in (id, get_or pieces id []) ++ join_map places_in (drop (id + 1) (numbered pieces))
   places_here =
-      ap (join_map places_in) (drop-cons (numbered pieces) id (0, []) (omega (arith, length-numbered pieces)) ∙ ap₂ {C = List (ℕ × List ℕ)} ◌∷◌ (get_d_numbered pieces id 0 [] h) (ap (λ (k : ℕ). drop k (numbered pieces)) (sym (add-one id))))
+      ap (join_map places_in) (drop-cons (numbered pieces) id (0, []) (omega (arith, length-numbered pieces)) ∙ ap₂ {C = List (ℕ × List ℕ)} ◌∷◌ (get_or_numbered pieces id 0 [] h) (ap (λ (k : ℕ). drop k (numbered pieces)) (sym (add-one id))))
 
   -- the places of the piece at id
   places_of : (ps : List ℕ) → places_within (get_or pieces id []) ≡ ps → drop n (crossing_places pieces) ≡ map (λ (p : ℕ). (id, p)) ps ++ join_map places_in (drop (id + 1) (numbered pieces))

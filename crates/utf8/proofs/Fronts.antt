@@ -11,7 +11,7 @@ use lib.ListN.{length, get_or, drop, drop_of_length-le, length-map, get_or-map}
 use lib.Seq.{drop-cons}
 use Rattle.utf8.specs.Lists.{take_while, below}
 use Rattle.utf8.proofs.Tests.{clash}
-use Rattle.utf8.proofs.Places.{get_d_inside, length-count_from, get_d_count_from}
+use Rattle.utf8.proofs.Places.{get_or_inside, length-count_from, get_or_count_from}
 
 module _ {ℓ} {A : Type ℓ} (test : A → Bool) where
   front_in : (x : A) (xs : List A) → test x ≡ true → length (take_while test (x ∷ xs)) ≡ suc (length (take_while test xs))
@@ -91,8 +91,8 @@ module _ {ℓ} {A : Type ℓ} (p q : A → Bool) (wider : (x : A) → p x ≡ tr
 pub length-row : (f : ℕ → ℕ) (n : ℕ) → length (map f (below n)) ≡ n
 length-row f n = length-map (below n) f ∙ length-count_from 0 n
 
-pub get_d_row : (f : ℕ → ℕ) (n i d : ℕ) → i < n → get_or (map f (below n)) i d ≡ f i
-get_d_row f n i d h =
-    get_d_inside (map f (below n)) i d (f 0) (omega (arith, length-row f n))
+pub get_or_row : (f : ℕ → ℕ) (n i d : ℕ) → i < n → get_or (map f (below n)) i d ≡ f i
+get_or_row f n i d h =
+    get_or_inside (map f (below n)) i d (f 0) (omega (arith, length-row f n))
     ∙ get_or-map f (below n) i 0
-    ∙ ap f (get_d_count_from 0 n i 0 h ∙ zero-add i)
+    ∙ ap f (get_or_count_from 0 n i 0 h ∙ zero-add i)

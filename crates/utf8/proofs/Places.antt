@@ -76,10 +76,10 @@ module _ {ℓ} {A : Type ℓ} (test : A → Bool) where
 
 module _ {ℓ} {A : Type ℓ} where
   -- what stands for a missing element does not matter where there is one
-  pub get_d_inside : (xs : List A) (i : ℕ) (d e : A) → i < length xs → get_or xs i d ≡ get_or xs i e
-  get_d_inside [] i d e h = absurd (not-suc-le-zero h)
-  get_d_inside (x ∷ xs) zero d e h = refl
-  get_d_inside (x ∷ xs) (suc i) d e h = get_d_inside xs i d e (le_of_suc-le-suc h)
+  pub get_or_inside : (xs : List A) (i : ℕ) (d e : A) → i < length xs → get_or xs i d ≡ get_or xs i e
+  get_or_inside [] i d e h = absurd (not-suc-le-zero h)
+  get_or_inside (x ∷ xs) zero d e h = refl
+  get_or_inside (x ∷ xs) (suc i) d e h = get_or_inside xs i d e (le_of_suc-le-suc h)
 
   pub empty_by_length : (xs : List A) → is_empty xs ≡ eqb (length xs) 0
   empty_by_length [] = refl
@@ -105,14 +105,14 @@ module _ {ℓ} {A : Type ℓ} where
   length-neighbours [] = refl
   length-neighbours (x ∷ xs) = length-neighbours_from x xs ∙ omega arith
 
-  get_d_neighbours_from : (x : A) (xs : List A) (i : ℕ) (d e : A) → i < length xs → get_or (neighbours_from x xs) i (d, e) ≡ (get_or (x ∷ xs) i d, get_or xs i e)
-  get_d_neighbours_from x [] i d e h = absurd (not-suc-le-zero h)
-  get_d_neighbours_from x (y ∷ ys) zero d e h = refl
-  get_d_neighbours_from x (y ∷ ys) (suc i) d e h = get_d_neighbours_from y ys i d e (le_of_suc-le-suc h)
+  get_or_neighbours_from : (x : A) (xs : List A) (i : ℕ) (d e : A) → i < length xs → get_or (neighbours_from x xs) i (d, e) ≡ (get_or (x ∷ xs) i d, get_or xs i e)
+  get_or_neighbours_from x [] i d e h = absurd (not-suc-le-zero h)
+  get_or_neighbours_from x (y ∷ ys) zero d e h = refl
+  get_or_neighbours_from x (y ∷ ys) (suc i) d e h = get_or_neighbours_from y ys i d e (le_of_suc-le-suc h)
 
-  pub get_d_neighbours : (xs : List A) (i : ℕ) (d e : A) → i + 1 < length xs → get_or (neighbours xs) i (d, e) ≡ (get_or xs i d, get_or xs (i + 1) e)
-  get_d_neighbours [] i d e h = absurd (not-suc-le-zero h)
-  get_d_neighbours (x ∷ xs) i d e h = rw add-one (get_d_neighbours_from x xs i d e (omega arith))
+  pub get_or_neighbours : (xs : List A) (i : ℕ) (d e : A) → i + 1 < length xs → get_or (neighbours xs) i (d, e) ≡ (get_or xs i d, get_or xs (i + 1) e)
+  get_or_neighbours [] i d e h = absurd (not-suc-le-zero h)
+  get_or_neighbours (x ∷ xs) i d e h = rw add-one (get_or_neighbours_from x xs i d e (omega arith))
 
 module _ {ℓ} {A : Type ℓ} where
   -- ---- elements with their places
@@ -124,13 +124,13 @@ module _ {ℓ} {A : Type ℓ} where
   pub length-numbered : (xs : List A) → length (numbered xs) ≡ length xs
   length-numbered xs = length-numbered_from 0 xs
 
-  get_d_numbered_from : (p : ℕ) (xs : List A) (i q : ℕ) (d : A) → i < length xs → get_or (numbered_from p xs) i (q, d) ≡ (p + i, get_or xs i d)
-  get_d_numbered_from p [] i q d h = absurd (not-suc-le-zero h)
-  get_d_numbered_from p (x ∷ xs) zero q d h = rw add-zero
-  get_d_numbered_from p (x ∷ xs) (suc i) q d h = rw (add-suc, ← suc-add) (get_d_numbered_from (suc p) xs i q d (le_of_suc-le-suc h))
+  get_or_numbered_from : (p : ℕ) (xs : List A) (i q : ℕ) (d : A) → i < length xs → get_or (numbered_from p xs) i (q, d) ≡ (p + i, get_or xs i d)
+  get_or_numbered_from p [] i q d h = absurd (not-suc-le-zero h)
+  get_or_numbered_from p (x ∷ xs) zero q d h = rw add-zero
+  get_or_numbered_from p (x ∷ xs) (suc i) q d h = rw (add-suc, ← suc-add) (get_or_numbered_from (suc p) xs i q d (le_of_suc-le-suc h))
 
-  pub get_d_numbered : (xs : List A) (i q : ℕ) (d : A) → i < length xs → get_or (numbered xs) i (q, d) ≡ (i, get_or xs i d)
-  get_d_numbered xs i q d h = get_d_numbered_from 0 xs i q d h ∙ rw zero-add
+  pub get_or_numbered : (xs : List A) (i q : ℕ) (d : A) → i < length xs → get_or (numbered xs) i (q, d) ≡ (i, get_or xs i d)
+  get_or_numbered xs i q d h = get_or_numbered_from 0 xs i q d h ∙ rw zero-add
 
 module _ {ℓ} {A : Type ℓ} (test : A × A → Bool) (xs : List A) (i : ℕ) (d : A) where
   -- ---- tests of neighbours, one pair more and the end
@@ -139,7 +139,7 @@ module _ {ℓ} {A : Type ℓ} (test : A × A → Bool) (xs : List A) (i : ℕ) (
   inside h = omega (arith, length-neighbours xs)
 
   at_pair : (b : Bool) → i + 1 < length xs → test (get_or xs i d, get_or xs (i + 1) d) ≡ b → test (get_or (neighbours xs) i (d, d)) ≡ b
-  at_pair b h e = ap test (get_d_neighbours xs i d d h) ∙ e
+  at_pair b h e = ap test (get_or_neighbours xs i d d h) ∙ e
 
   pub any_pair_found : i + 1 < length xs → test (get_or xs i d, get_or xs (i + 1) d) ≡ true → any test (drop i (neighbours xs)) ≡ true
   any_pair_found h e = any_found test (neighbours xs) i (d, d) (inside h) (at_pair true h e)
@@ -160,13 +160,13 @@ module _ {ℓ} {A : Type ℓ} (test : A × A → Bool) (xs : List A) (i : ℕ) (
   all_pair_ended h = all-ended test (neighbours xs) i (omega (arith, length-neighbours xs))
 
   pub all_pair_holds : all test (neighbours xs) ≡ true → i + 1 < length xs → test (get_or xs i d, get_or xs (i + 1) d) ≡ true
-  all_pair_holds e h = ap test (sym (get_d_neighbours xs i d d h)) ∙ all_holds test (neighbours xs) i (d, d) e (inside h)
+  all_pair_holds e h = ap test (sym (get_or_neighbours xs i d d h)) ∙ all_holds test (neighbours xs) i (d, d) e (inside h)
 
 module _ {ℓ} {A : Type ℓ} (test : ℕ × A → Bool) (xs : List A) (i : ℕ) (d : A) where
   -- ---- tests of elements with their places, one more and the end
 
   at-numbered : (b : Bool) → i < length xs → test (i, get_or xs i d) ≡ b → test (get_or (numbered xs) i (0, d)) ≡ b
-  at-numbered b h e = ap test (get_d_numbered xs i 0 d h) ∙ e
+  at-numbered b h e = ap test (get_or_numbered xs i 0 d h) ∙ e
 
   pub any-numbered_found : i < length xs → test (i, get_or xs i d) ≡ true → any test (drop i (numbered xs)) ≡ true
   any-numbered_found h e = any_found test (numbered xs) i (0, d) (omega (arith, length-numbered xs)) (at-numbered true h e)
@@ -194,11 +194,11 @@ module _ {ℓ κ} {A : Type ℓ} {B : Type κ} where
   length-zip (x ∷ xs) [] = sym (min-zero (suc (length xs)))
   length-zip (x ∷ xs) (y ∷ ys) = ap suc (length-zip xs ys) ∙ sym (suc-min-suc (length xs) (length ys))
 
-  pub get_d_zip : (xs : List A) (ys : List B) (i : ℕ) (d : A) (e : B) → i < length xs → i < length ys → get_or (zip xs ys) i (d, e) ≡ (get_or xs i d, get_or ys i e)
-  get_d_zip [] ys i d e h k = absurd (not-suc-le-zero h)
-  get_d_zip (x ∷ xs) [] i d e h k = absurd (not-suc-le-zero k)
-  get_d_zip (x ∷ xs) (y ∷ ys) zero d e h k = refl
-  get_d_zip (x ∷ xs) (y ∷ ys) (suc i) d e h k = get_d_zip xs ys i d e (le_of_suc-le-suc h) (le_of_suc-le-suc k)
+  pub get_or_zip : (xs : List A) (ys : List B) (i : ℕ) (d : A) (e : B) → i < length xs → i < length ys → get_or (zip xs ys) i (d, e) ≡ (get_or xs i d, get_or ys i e)
+  get_or_zip [] ys i d e h k = absurd (not-suc-le-zero h)
+  get_or_zip (x ∷ xs) [] i d e h k = absurd (not-suc-le-zero k)
+  get_or_zip (x ∷ xs) (y ∷ ys) zero d e h k = refl
+  get_or_zip (x ∷ xs) (y ∷ ys) (suc i) d e h k = get_or_zip xs ys i d e (le_of_suc-le-suc h) (le_of_suc-le-suc k)
 
 module _ {ℓ} {A : Type ℓ} where
   -- ---- a part from a place to a place
@@ -224,24 +224,24 @@ pub length-count_from : (first n : ℕ) → length (count_from first n) ≡ n
 length-count_from first zero = refl
 length-count_from first (suc n) = ap suc (length-count_from (suc first) n)
 
-pub get_d_count_from : (first n i d : ℕ) → i < n → get_or (count_from first n) i d ≡ first + i
-get_d_count_from first zero i d h = absurd (not-suc-le-zero h)
-get_d_count_from first (suc n) zero d h = sym (add-zero first)
-get_d_count_from first (suc n) (suc i) d h = rw (add-suc, ← suc-add) (get_d_count_from (suc first) n i d (le_of_suc-le-suc h))
+pub get_or_count_from : (first n i d : ℕ) → i < n → get_or (count_from first n) i d ≡ first + i
+get_or_count_from first zero i d h = absurd (not-suc-le-zero h)
+get_or_count_from first (suc n) zero d h = sym (add-zero first)
+get_or_count_from first (suc n) (suc i) d h = rw (add-suc, ← suc-add) (get_or_count_from (suc first) n i d (le_of_suc-le-suc h))
 
 -- ---- parts between places
 
 pub length-between : (places xs : List ℕ) → length (between places xs) ≡ length places - 1
 length-between places xs = length-map (neighbours places) _ ∙ length-neighbours places
 
-pub get_d_between : (places xs : List ℕ) (i : ℕ) → i + 1 < length places → get_or (between places xs) i [] ≡ slice (get_or places i 0) (get_or places (i + 1) 0) xs
-get_d_between places xs i h =
+pub get_or_between : (places xs : List ℕ) (i : ℕ) → i + 1 < length places → get_or (between places xs) i [] ≡ slice (get_or places i 0) (get_or places (i + 1) 0) xs
+get_or_between places xs i h =
     let part : ℕ × ℕ → List ℕ = λ p. slice p.0 p.1 xs in
-    get_or-map part (neighbours places) i (0, 0) ∙ ap part (get_d_neighbours places i 0 0 h)
+    get_or-map part (neighbours places) i (0, 0) ∙ ap part (get_or_neighbours places i 0 0 h)
 
 -- past the last part there is none
-pub get_d_between-past : (places xs : List ℕ) (i : ℕ) → length places ≤ i + 1 → get_or (between places xs) i [] ≡ []
-get_d_between-past places xs i h = get_or-eq_default (between places xs) [] (rw length-between (omega arith))
+pub get_or_between-past : (places xs : List ℕ) (i : ℕ) → length places ≤ i + 1 → get_or (between places xs) i [] ≡ []
+get_or_between-past places xs i h = get_or-eq_default (between places xs) [] (rw length-between (omega arith))
 
 -- ---- the same as two lists joined
 

@@ -8,7 +8,7 @@ use native.Mathlib.Omega.{arith}
 use lib.ListN.{length, get_or, take, set, length-map, get_or-map}
 use lib.Seq.{take-suc, take-suc-set, take_all}
 use Rattle.utf8.specs.Lists.{below}
-use Rattle.utf8.proofs.Places.{get_d_inside, length-count_from, get_d_count_from}
+use Rattle.utf8.proofs.Places.{get_or_inside, length-count_from, get_or_count_from}
 use Rattle.model.specs.declared.Step.{Step}
 use Rattle.varitmol.specs.Numbers.{step_of, steps_from}
 
@@ -23,9 +23,9 @@ module _ (kinds spans : List ℕ) where
   step_at : (i : ℕ) (d : Step) → i < 16 → get_or (steps_from kinds spans) i d ≡ at i
   unfolding steps_from
   step_at i d h =
-      get_d_inside (steps_from kinds spans) i d (at 0) (omega (arith, length-steps))
+      get_or_inside (steps_from kinds spans) i d (at 0) (omega (arith, length-steps))
       ∙ get_or-map at (below 16) i 0
-      ∙ ap at (get_d_count_from 0 16 i 0 h ∙ zero-add i)
+      ∙ ap at (get_or_count_from 0 16 i 0 h ∙ zero-add i)
 
   module _ (steps : List Step) (i : ℕ) where
     pub steps_next : (kind : ℕ) (step : Step) → length steps ≡ 16 → i < 16 → kind ≡ get_or kinds i 3 → step ≡ step_of kind spans i → take i steps ≡ take i (steps_from kinds spans) → take (i + 1) (set steps i step) ≡ take (i + 1) (steps_from kinds spans)

@@ -13,7 +13,7 @@ use Rattle.model.specs.Check.{wrong_sizes, wrong_list_sizes, text_too_long, offs
 use Rattle.model.specs.inner.Tests.{span_fails}
 use Rattle.model.proofs.Accepted.{sizes_fine, DecidedBy, Undecided, nothing_decided, others_decide, first_decides, refuses, accepts}
 use Rattle.model.proofs.check.Goals as goal
-use Rattle.model.proofs.check.Goals.{Else-bad_fallback, Else-bad_lookup, Else-bad_piece, Else-bad_row, Else-bad_token, Else-bad_token-2, Else-offsets_astray, Else-steps_fail, Else-wrong_sizes, Start}
+use Rattle.model.proofs.check.Goals.{Else-bad_fallback, Else-bad_lookup, Else-bad_piece, Else-bad_row, Else-bad_token, Else-bad_token-2, Else-offsets_astray, Else-wrong_sizes, Start}
 
 -- the lent columns as a model
 abbrev lent : Start → Model
@@ -46,9 +46,6 @@ after-7 e = after-6 (goal.at.Else-bad_token e).Else-bad_row
 
 abbrev after-8 : Else-bad_token-2 → Model
 after-8 e = after-7 (goal.at.Else-bad_token-2 e).Else-bad_token
-
-abbrev after-9 : Else-steps_fail → Model
-after-9 e = after-8 (goal.at.Else-steps_fail e).Else-bad_token-2
 
 -- what the tests of sizes and of the first token list said
 fine-sizes : (e : Else-wrong_sizes) → wrong_sizes (after-1 e) ≡ false
@@ -89,10 +86,6 @@ unfolding model_tests contents
 left-7 e =
     others_decide (left-6 (goal.at.Else-bad_token-2 e).Else-bad_row)
     (ap₂ ◌||◌ (fine-first (goal.at.Else-bad_token-2 e).Else-bad_token) (sym e.bad_token-2.ensures ∙ e.if-bad_token-2.false))
-
-left-8 : (e : Else-steps_fail) → Undecided 8 (after-9 e)
-unfolding model_tests bad_step span_fails steps_of
-left-8 e = others_decide (left-7 (goal.at.Else-steps_fail e).Else-bad_token-2) (sym e.steps_fail.ensures ∙ e.if-steps_fail.false)
 
 -- a refusal by the first of the tests that still decide
 refusal : (m : Model) (answer : Answer) {number : ℕ} {b : Bool} {tests : List (ℕ × Bool)} → 0 < number → answer ≡ refused number 0 → DecidedBy ((number, b) ∷ tests) m → b ≡ true → answer ≡ check_outcome m
@@ -161,5 +154,8 @@ returns-then-steps_fail c =
     (sym c.steps_fail.ensures ∙ c.if-steps_fail.true)
 
 pub returns : goal.returns
-unfolding model_tests
-returns c = c.done.ensures ∙ sym (accepts (after-9 (goal.at.returns c).Else-steps_fail) (left-8 (goal.at.returns c).Else-steps_fail).number)
+unfolding model_tests bad_step span_fails steps_of
+returns c =
+    let b = (goal.at.returns c).Else-bad_token-2 in
+    let left-8 : Undecided 8 (after-8 b) = others_decide (left-7 b) (sym c.steps_fail.ensures ∙ c.if-steps_fail.false) in
+    c.done.ensures ∙ sym (accepts (after-8 b) left-8.number)
