@@ -1,5 +1,4 @@
 -- `decode::decode_checked` meets its contract: the list's size, and then the ids. Assumes nothing.
--- the way back to the start
 use mathlib.Core.Path.{◌≡◌, refl, ◌∙◌}
 use mathlib.Core.Bool.{Bool, true, false, not}
 use Rattle.model.specs.Model.{model_of, token_list, pieces_of, steps_of}

@@ -1,5 +1,4 @@
 -- `decode::decode_ids` meets its contract: the bytes are put out where there is room for all of them. Assumes nothing.
--- where the bytes were put out, and the rest cleared
 use Prim.Native.Nat.{ℕ}
 use mathlib.Core.Path.{sym, ◌∙◌}
 use mathlib.Core.Bool.{not}

@@ -1,6 +1,4 @@
 -- `encode::encode_prepared` meets its contract: by the first test that applies, and then by the path that the index tells.
--- the way back to the start, and what is known of bytes there
--- the ways back from where the text was found valid, and from where the path was read
 use native.Mathlib.Omega.{arith}
 use mathlib.Core.Path.{◌≡◌, sym, ap, ◌∙◌}
 use Rattle.model.specs.Model.{model_of, token_list, steps_of}

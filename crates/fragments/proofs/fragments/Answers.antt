@@ -1,5 +1,4 @@
 -- `fragments::fragments` meets its contract: the text's size, the model check, what is derived of the model, and then the prepared twin.
--- the way back to the start, and from where the model was found fine
 use mathlib.Core.Path.{◌≡◌, sym, ◌∙◌}
 use Prim.Native.Nat.{ℕ}
 use lib.ListN.{length-replicate}

@@ -1,6 +1,4 @@
 -- `fragments::fragments_prepared` meets its contract: by the first test that applies, and then by the path that the index tells.
--- the way back to the start
--- the ways back from where the text was found valid, and from where the path was read
 use mathlib.Core.Path.{◌≡◌, sym, ◌∙◌}
 use Rattle.model.specs.Model.{model_of, token_list, pieces_of}
 use Rattle.units.specs.Kinds.{raw_path}

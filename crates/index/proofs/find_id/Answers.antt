@@ -1,5 +1,4 @@
 -- `index::find_id` meets its contract.
--- the start of the call, from where the tests are done
 use mathlib.Core.Path.{◌≡◌, sym, ap, ◌∙◌}
 use mathlib.Core.Option.{some}
 use borrow.Author.Tests.{eq-eqb, ne_eqb}
@@ -20,11 +19,9 @@ returns-then-is_mark c =
     rw (ne_eqb _ _ c.if-key-eq1.false, ← c.is_mark.ensures, c.if-is_mark.true) c.id_of-then-is_mark.ensures
 
 -- what is sought, from where the lookup list was searched
-sought : (c : After-find_piece_between) → (let st = c.before.before.before.before.before.before.before.before.before.before.before in
-    id_from (strings c.args.piece_bytes.now c.args.piece_offsets.now) c.args.lookup.now c.args.first_bytes.now c.args.mark_id c.args.key.now ≡ entry_at 0 c.args.lookup.now c.find_piece_between.result)
+sought : (c : After-find_piece_between) → (id_from (strings c.args.piece_bytes.now c.args.piece_offsets.now) c.args.lookup.now c.args.first_bytes.now c.args.mark_id c.args.key.now ≡ entry_at 0 c.args.lookup.now c.find_piece_between.result)
 unfolding id_at
 sought c =
-    let st = c.before.before.before.before.before.before.before.before in
     id-searched (strings c.args.piece_bytes.now c.args.piece_offsets.now) c.args.lookup.now c.args.first_bytes.now c.args.mark_id c.args.key.now
     c.if-key-eq1.false c.is_mark.ensures c.if-is_mark.false c.key_start-start.ensures.0 c.key_end-end.ensures c.find_piece_between.ensures
 

@@ -1,6 +1,4 @@
 -- `model::check` meets its contract: the answer is that of the first test that applies.
--- the way back to the start, and the model seen from behind each test
--- the way back to the test of sizes
 use mathlib.Core.Path.{◌≡◌, refl, sym, ap₂, ◌∙◌}
 use mathlib.Core.Bool.{Bool, true, false, ◌||◌}
 use mathlib.Core.List.{List, ◌∷◌}

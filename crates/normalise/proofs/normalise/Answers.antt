@@ -1,5 +1,4 @@
 -- `normalise::normalise` meets its contract: the text's size, the model check, and then the checked twin.
--- the way back to the start
 use mathlib.Core.Path.{sym, ◌∙◌}
 use Rattle.model.specs.Model.{model_of, token_list}
 use Rattle.model.proofs.AnswerLaws.{number-checked}

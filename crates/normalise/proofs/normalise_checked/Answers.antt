@@ -1,6 +1,4 @@
 -- `normalise::normalise_checked` meets its contract: by the first test that applies.
--- the way back to the start
--- the way back to where the text was found valid
 use mathlib.Core.Path.{sym, ◌∙◌}
 use Rattle.model.specs.Model.{model_of, token_list, steps_of}
 use Rattle.normalise.proofs.NormalLaws.{Lent, long_text, bad_text, good_text}

@@ -1,5 +1,4 @@
 -- `normalise::normalise_text` meets its contract: what its calls leave, put together.
--- the way back from the end: to the answer, to what was run, to the length that fits both buffers, and to the start
 use mathlib.Core.Path.{◌≡◌}
 use borrow.Author.Rules.{rules}
 use lib.ListN.{length, take}

@@ -1,5 +1,4 @@
 -- `prepare::prepare` meets its contract: the model check, and then the checked twin.
--- the start of the call, from where it begins to look
 use mathlib.Core.Path.{◌≡◌, sym, ap, ◌∙◌}
 use Rattle.model.specs.declared.Answer.{Answer}
 use Rattle.model.specs.Model.{Model, model_of, token_list}

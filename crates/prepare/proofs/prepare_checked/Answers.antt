@@ -1,6 +1,4 @@
 -- `prepare::prepare_checked` meets its contract: the two lengths, and then what is derived.
--- the start of the call, from where it begins to look
--- the two tests, from where the first row is derived
 use mathlib.Core.Path.{◌≡◌, sym, ap, ◌∙◌}
 use Prim.Native.Nat.{◌≤◌, ◌<◌}
 use lib.ListN.{length}

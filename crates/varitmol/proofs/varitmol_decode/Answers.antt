@@ -1,5 +1,4 @@
 -- `varitmol::varitmol_decode` meets its contract: the numbers, and then `decode::decode` on what they stand for.
--- the way back to where the numbers were turned into steps and a metaspace
 use Rattle.varitmol.specs.Numbers.{answered_result}
 use Rattle.varitmol.proofs.varitmol_decode.Goals as goal
 

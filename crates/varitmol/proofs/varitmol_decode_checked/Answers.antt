@@ -1,6 +1,4 @@
 -- `varitmol::varitmol_decode_checked` meets its contract: the numbers, and then `decode::decode_checked` on what they stand for.
--- the way back to where the numbers were turned into steps and a metaspace
--- the start of the call, from where it begins to look
 use Rattle.varitmol.specs.Numbers.{answered_result}
 use Rattle.varitmol.proofs.varitmol_decode_checked.Goals as goal
 

@@ -1,5 +1,4 @@
 -- `varitmol::varitmol_encode` meets its contract: the numbers, and then `encode::encode` on what they stand for.
--- the way back to where the numbers were turned into steps and a metaspace
 use Rattle.varitmol.specs.Numbers.{answered_scratch}
 use Rattle.varitmol.proofs.varitmol_encode.Goals as goal
 

@@ -1,6 +1,4 @@
 -- `varitmol::varitmol_fragments_prepared` meets its contract: the numbers, and then `fragments::fragments_prepared` on what they stand for.
--- the way back to where the numbers were turned into steps and a metaspace
--- the start of the call, from where it begins to look
 use Rattle.varitmol.specs.Numbers.{answered_result}
 use Rattle.varitmol.proofs.varitmol_fragments_prepared.Goals as goal
 

@@ -1,5 +1,4 @@
 -- `varitmol::varitmol_normalise` meets its contract: the numbers, and then `normalise::normalise` on what they stand for.
--- the way back to where the numbers were turned into steps and a metaspace
 use Rattle.varitmol.specs.Numbers.{answered_scratch}
 use Rattle.varitmol.proofs.varitmol_normalise.Goals as goal
 

@@ -1,5 +1,4 @@
 -- `decode::feed::feed` meets its contract: where the byte breaks off what is held, that is put out first. Assumes nothing.
--- what follows where the bytes held were put out
 use Prim.Native.Nat.{ℕ, ◌≤◌}
 use native.Mathlib.Omega.{arith}
 use mathlib.Core.Path.{◌≡◌, refl, sym, ap, ◌∙◌}

@@ -1,5 +1,4 @@
 -- `decode::pass::feed_ids` meets its contract. The loop's invariant: what was put out and what is left to feed are what feeding all gives. Assumes nothing.
--- where the piece was read
 use Prim.Native.Nat.{◌-◌, ◌≤◌}
 use mathlib.Core.Path.{◌≡◌}
 use lib.ListN.{length, drop}

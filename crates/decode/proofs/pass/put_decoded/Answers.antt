@@ -1,5 +1,4 @@
 -- `decode::pass::put_decoded` meets its contract: what was held at the end is put out behind what was settled. Assumes nothing.
--- where the state was made that the bytes are fed to
 use Prim.Native.Nat.{ℕ}
 use mathlib.Core.List.{List}
 use Rattle.model.specs.Model.{strings}

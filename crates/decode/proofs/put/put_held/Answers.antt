@@ -1,5 +1,4 @@
 -- `decode::put::put_held` meets its contract: by how many bytes are held. Assumes nothing.
--- the ways back from each byte to the one before it
 use Prim.Native.Nat.{ℕ, ◌+◌}
 use native.Mathlib.Omega.{arith}
 use mathlib.Core.Path.{◌≡◌, sym, ap, ◌∙◌}

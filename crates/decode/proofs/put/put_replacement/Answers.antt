@@ -1,5 +1,4 @@
 -- `decode::put::put_replacement` meets its contract: a byte, and then the next. Assumes nothing.
--- what the three bytes are put behind
 use native.Mathlib.Omega.{arith}
 use mathlib.Core.List.{[], ◌∷◌}
 use Rattle.decode.specs.Decode.{replacement}

@@ -1,5 +1,4 @@
 -- `decode::put::put_settled` meets its contract: a byte alone, a character, or a mark. Assumes nothing.
--- where some bytes are held
 use Prim.Native.Nat.{ℕ, ◌<◌}
 use native.Mathlib.Omega.{arith}
 use mathlib.Core.Path.{◌≡◌, sym, ap, ◌∙◌}

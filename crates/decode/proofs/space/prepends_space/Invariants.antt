@@ -1,5 +1,4 @@
 -- `decode::space::prepends_space` meets its contract. The loop's invariant: what the steps from `i` on say is what all say. Assumes nothing.
--- where metaspace puts nothing in front
 use Prim.Native.Nat.{◌-◌, ◌≤◌}
 use mathlib.Core.Path.{◌≡◌}
 use lib.ListN.{take, drop}

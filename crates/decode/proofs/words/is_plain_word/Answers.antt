@@ -1,5 +1,4 @@
 -- `decode::words::is_plain_word` meets its contract: by the first byte that is not plain. Assumes nothing.
--- the ways back, from one test that failed to the one before it
 use Prim.Native.Nat.{ℕ, ◌%◌, ◌/◌}
 use mathlib.Core.Path.{◌≡◌, sym, ◌∙◌}
 use mathlib.Core.Bool.{true}

@@ -1,5 +1,4 @@
 -- `decode::words::shown_word` meets its contract. Assumes nothing.
--- the way back to the start
 use Prim.Native.Nat.{ℕ, ◌+◌, ◌-◌, ◌%◌}
 use native.Mathlib.Omega.{arith}
 use mathlib.Core.Path.{◌≡◌, ap, ◌∙◌}

@@ -1,7 +1,5 @@
 -- `encode::normal::count_normal` meets its contract. The loop's invariant: what is counted and the sections from the cursor on make up the whole,
 -- and nothing was too long before the cursor.
--- The way back from the count of a section: to the item, to the walk, to the loop's head, and to the start.
--- The buffers keep their lengths over the call.
 use Prim.Native.Nat.{min}
 use mathlib.Core.Path.{◌≡◌}
 use lib.ListN.{length, take}

@@ -1,6 +1,4 @@
 -- `encode::normal::encode_normal` meets its contract: what the first pass found decides.
--- The way back: from the match to the first pass, and from there to the start.
--- The way back from what was written: to the test of the cells, and to the first pass.
 use Prim.Native.Nat.{ℕ, min}
 use native.Mathlib.Omega.{arith}
 use mathlib.Core.Path.{ap, ap₂, ◌∙◌}

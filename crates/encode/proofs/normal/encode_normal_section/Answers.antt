@@ -1,5 +1,4 @@
 -- `encode::normal::encode_normal_section` meets its contract: the steps, and then the parts of the text where it stands.
--- The way back from the match: to the run of the steps, to the room, and to the start.
 use native.Mathlib.Omega.{arith}
 use mathlib.Core.Path.{◌≡◌, ap, ◌∙◌}
 use mathlib.Core.Bool.{false}

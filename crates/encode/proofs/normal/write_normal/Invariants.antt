@@ -1,6 +1,5 @@
 -- `encode::normal::write_normal` meets its contract. The loop's invariant: the sections before the cursor are written, those from there on follow,
 -- and none of them is too long.
--- The way back from a section: to the item, to the walk, to the loop's head, and to the start.
 use Prim.Native.Nat.{ℕ, min}
 use mathlib.Core.Path.{◌≡◌}
 use mathlib.Core.List.{List, map}

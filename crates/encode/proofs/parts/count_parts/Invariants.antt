@@ -1,6 +1,5 @@
 -- `encode::parts::count_parts` meets its contract. The loop's invariant: what is counted and the parts from the cursor on make up the whole, and
 -- nothing was too long before the cursor.
--- The way back from the count of a part: to the item, to the walk, and to the loop's head.
 use mathlib.Core.Path.{◌≡◌}
 use lib.ListN.{length}
 use Rattle.model.specs.Model.{token_list}

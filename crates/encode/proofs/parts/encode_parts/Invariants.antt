@@ -1,6 +1,5 @@
 -- `encode::parts::encode_parts` meets its contract. The loop's invariant: the parts before the cursor are written, those from there on follow, and
 -- none of them is too long.
--- The way back from a part: to the item, to the walk, to the loop's head, and to the start.
 use Prim.Native.Nat.{ℕ}
 use mathlib.Core.Path.{◌≡◌}
 use mathlib.Core.List.{List, map}

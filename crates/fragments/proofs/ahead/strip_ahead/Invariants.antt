@@ -1,6 +1,4 @@
 -- `fragments::ahead::strip_ahead` meets its contract. The loop's invariant: a search from `s` on finds what one from `p` on does.
--- the start of the call, from where the loop stands, and its tokens
--- the way back to the loop from where the white space was measured, and how wide it is
 use mathlib.Core.Path.{◌≡◌}
 use mathlib.Core.List.{[]}
 use Prim.Native.Nat.{◌-◌, ◌≤◌}

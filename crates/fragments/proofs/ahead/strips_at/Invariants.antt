@@ -1,6 +1,4 @@
 -- `fragments::ahead::strips_at` meets its contract. The loop's invariant: what all rows say, those from `row` on say.
--- the start of the call, from where the loop begins, and the test of a row
--- one row more: what it says, and those behind it
 use mathlib.Core.Path.{◌≡◌}
 use mathlib.Core.List.{[]}
 use Prim.Native.Nat.{◌-◌, ◌≤◌}

@@ -1,5 +1,4 @@
 -- `fragments::ahead::strips_here` meets its contract.
--- the start of the call, and its tokens
 use mathlib.Core.Path.{sym, ◌∙◌}
 use mathlib.Core.List.{[]}
 use borrow.Author.Rules.{rules}

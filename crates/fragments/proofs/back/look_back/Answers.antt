@@ -1,5 +1,4 @@
 -- `fragments::back::look_back` meets its contract.
--- the start of the call, and its tokens
 use mathlib.Core.Path.{◌∙◌}
 use Rattle.model.specs.Model.{TokenList}
 use Rattle.fragments.specs.inner.Reach.{tokens_of}

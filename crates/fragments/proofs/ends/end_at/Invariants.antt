@@ -1,5 +1,4 @@
 -- `fragments::ends::end_at` meets its contract. The loop's invariant: `far` and the rows from `row` on give what all rows give.
--- the start of the call, from where the loop begins, and its tokens
 use mathlib.Core.Path.{◌≡◌}
 use Prim.Native.Nat.{◌-◌, ◌≤◌, max}
 use lib.ListN.{length}

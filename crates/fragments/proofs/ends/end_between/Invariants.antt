@@ -1,6 +1,4 @@
 -- `fragments::ends::end_between` meets its contract. The loop's invariant: `far` and the places before `s` give what all places give.
--- the start of the call, from where the loop stands, its tokens, and where those end that stand at a place
--- the way back to the loop from where the byte was tested
 use mathlib.Core.Path.{◌≡◌}
 use Prim.Native.Nat.{◌-◌, ◌≤◌, max}
 use Rattle.utf8.specs.Lists.{count_from}

@@ -1,6 +1,4 @@
 -- `fragments::ends::end_of` meets its contract.
--- the start of the call, and the content of its row
--- the way back from where the content was compared to where its flag was read
 use mathlib.Core.Path.{◌≡◌, sym, ap, ◌∙◌}
 use mathlib.Core.Bool.{false}
 use mathlib.Core.List.{List, []}

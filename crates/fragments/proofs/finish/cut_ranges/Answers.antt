@@ -1,6 +1,4 @@
 -- `fragments::finish::cut_ranges` meets its contract.
--- the start of the call, its safe places, and the numbers of its ranges
--- the way back from where they were written
 use Prim.Native.Nat.{ℕ, ◌+◌, ◌≤◌}
 use native.Mathlib.Omega.{arith}
 use mathlib.Core.Path.{◌≡◌, sym, ap, ◌∙◌}

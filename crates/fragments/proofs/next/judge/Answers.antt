@@ -1,5 +1,4 @@
 -- `fragments::next::judge` meets its contract.
--- the start of the call, its tokens and its text
 use mathlib.Core.Path.{◌≡◌, sym, ap, ◌∙◌}
 use mathlib.Core.Bool.{Bool}
 use mathlib.Core.List.{List}

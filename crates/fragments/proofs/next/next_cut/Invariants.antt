@@ -1,6 +1,4 @@
 -- `fragments::next::next_cut` meets its contract. The loop's invariant is `Searching`; it goes on behind the blocks that have a mark.
--- the start of the call, from where the loop stands, and what it searches
--- the loop, from where a mark was judged
 use Prim.Native.Nat.{suc, ◌-◌}
 use lib.ListN.{length}
 use Rattle.model.specs.Model.{strings}

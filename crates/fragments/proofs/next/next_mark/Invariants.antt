@@ -1,5 +1,4 @@
 -- `fragments::next::next_mark` meets its contract. The loop's invariant: a search from `p` on finds what one from `from` on does.
--- the start of the call, from where the loop stands, and the test of a place
 use mathlib.Core.Path.{◌≡◌}
 use mathlib.Core.Bool.{true}
 use Prim.Native.Nat.{◌-◌}

@@ -1,5 +1,4 @@
 -- `fragments::ranges::count_cuts` meets its contract. The loop's invariant is `Counting`.
--- the start of the call, from where the loop stands, and what it searches
 use Prim.Native.Nat.{◌-◌, ◌<◌}
 use lib.ListN.{length}
 use Rattle.model.specs.Model.{strings}

@@ -1,5 +1,4 @@
 -- `fragments::ranges::cut_after` meets its contract.
--- the start of the call, and what it searches
 use Prim.Native.Nat.{◌+◌}
 use native.Mathlib.Omega.{arith}
 use Rattle.model.specs.Model.{strings}

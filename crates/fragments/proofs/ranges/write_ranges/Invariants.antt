@@ -1,6 +1,4 @@
 -- `fragments::ranges::write_ranges` meets its contract. The loop's invariant is `Ranging`.
--- the start of the call, from where the loop stands, and what it searches
--- the way back to the loop from where a range was put
 use Prim.Native.Nat.{◌-◌, ◌<◌}
 use lib.ListN.{length}
 use Rattle.model.specs.Model.{strings}

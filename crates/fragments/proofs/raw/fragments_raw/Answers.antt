@@ -1,5 +1,4 @@
 -- `fragments::raw::fragments_raw` meets its contract.
--- the way back to where the index is read, and to the start
 use native.Mathlib.Omega.{arith}
 use mathlib.Core.Path.{ap, ◌∙◌}
 use Rattle.prepare.specs.inner.Read.{kind_from}

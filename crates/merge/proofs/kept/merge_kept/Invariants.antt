@@ -1,6 +1,5 @@
 -- `merge::kept::merge_kept` meets its contract. The loop's invariant: the `n` ids that are left merge to what the first ones merge to, and
 -- the rows that are kept are right but for those that are looked up next.
--- the way back from where ids and keys are closed up to where the place was told
 use lib.ListN.{length}
 use Rattle.merge.proofs.KeyLaws.{Keeping}
 use Rattle.merge.specs.inner.Turns.{row_in}

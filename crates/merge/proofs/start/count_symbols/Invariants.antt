@@ -1,6 +1,4 @@
 -- `merge::start::count_symbols` meets its contract. The loop's invariant: the characters before `i` are counted.
--- the start of the call, from where the loop stands
--- where the loop stands, from where the byte's own id is sought, and from where the character's width is known
 use Prim.Native.Nat.{◌+◌, ◌-◌, ◌≤◌}
 use mathlib.Core.Path.{◌≡◌}
 use lib.ListN.{length, drop}

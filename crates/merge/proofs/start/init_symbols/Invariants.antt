@@ -1,5 +1,4 @@
 -- `merge::start::init_symbols` meets its contract. The loop's invariant: the characters before `i` are spelled.
--- where the loop stands, from where the byte's own id is sought, and from where the character's width is known
 use Prim.Native.Nat.{◌+◌, ◌-◌, ◌≤◌}
 use lib.ListN.{length, drop}
 use Rattle.merge.specs.Start.{unit_chars}

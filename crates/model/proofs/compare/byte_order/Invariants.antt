@@ -1,6 +1,5 @@
 -- `model::compare::byte_order` meets its contract. The loop's invariant: neither string has ended before `i`, and their order is that
 -- of what follows from `i` on.
--- the way back to the start
 use mathlib.Core.Path.{◌≡◌}
 use Prim.Native.Nat.{◌≤◌, ◌-◌}
 use lib.ListN.{length, drop}

@@ -1,5 +1,4 @@
 -- `model::lookup::bad_lookup` meets its contract: each answer by the tests that led there.
--- the way back to the start
 use mathlib.Core.Path.{◌≡◌, refl, sym, ◌∙◌}
 use mathlib.Core.Bool.{Bool, true, false, ◌&&◌}
 use mathlib.Core.List.{List}

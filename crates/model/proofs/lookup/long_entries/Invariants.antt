@@ -1,5 +1,4 @@
 -- `model::lookup::long_entries` meets its contract. The loop's invariant: what was counted and what is to come is the count of all.
--- the way back to the start
 use mathlib.Core.Path.{◌≡◌}
 use mathlib.Core.Bool.{Bool}
 use mathlib.Core.List.{List}

@@ -1,5 +1,4 @@
 -- `model::lookup::lookup_ascends` meets its contract. The loop's invariant: the entries ascend exactly if those from `i` on do.
--- the way back to the start
 use mathlib.Core.Path.{◌≡◌}
 use Prim.Native.Nat.{◌≤◌, ◌-◌}
 use lib.ListN.{length}

@@ -1,5 +1,4 @@
 -- `model::lookup::names_no_piece` meets its contract. The loop's invariant: an entry names no piece exactly if one from `i` on does.
--- the way back to the start
 use mathlib.Core.Path.{◌≡◌}
 use Prim.Native.Nat.{◌≤◌, ◌-◌}
 use lib.ListN.{length, drop}

@@ -1,6 +1,4 @@
 -- `model::rows::bad_row` meets its contract: each answer by the tests that led there.
--- the way back to the start
--- the way back to where the rows were found to ascend
 use mathlib.Core.Path.{◌≡◌, sym, ap, ◌∙◌}
 use mathlib.Core.Bool.{true, false, not}
 use Rattle.model.specs.Check.{rows_ascend, bad_row}

@@ -1,6 +1,4 @@
 -- `model::rows::rows_ascend` meets its contract. The loop's invariant: the rows ascend exactly if those from `i` on do.
--- the way back to the start
--- the way back to the loop from inside a turn
 use mathlib.Core.Path.{◌≡◌}
 use Prim.Native.Nat.{◌≤◌, ◌-◌}
 use lib.ListN.{length}

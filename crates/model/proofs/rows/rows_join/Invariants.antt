@@ -1,5 +1,4 @@
 -- `model::rows::rows_join` meets its contract. The loop's invariant: the rows have their joins exactly if those from `i` on do.
--- the way back to the start
 use mathlib.Core.Path.{◌≡◌}
 use Prim.Native.Nat.{◌≤◌, ◌-◌}
 use lib.ListN.{length}

@@ -18,10 +18,9 @@ order s = piece_order (strings s.args.piece_bytes.now s.args.piece_offsets.now) 
 abbrev end : Start → ℕ
 end s = min s.args.to (length s.args.lookup.now)
 
-middle : (b : After-byte_order) → let t = b.before.before.before.before.before in b.byte_order.result ≡ order (goal.at.After-byte_order b).Start ((b.loop-lo.lo + b.loop-lo.hi) / 2)
+middle : (b : After-byte_order) → b.byte_order.result ≡ order (goal.at.After-byte_order b).Start ((b.loop-lo.lo + b.loop-lo.hi) / 2)
 unfolding piece_order piece
 middle b =
-    let t = b.before.before.before.before.before in
     let id : b.wide.result ≡ get_or b.args.lookup.now ((b.loop-lo.lo + b.loop-lo.hi) / 2) 0 = b.wide.ensures.0 in
     let entry : b.string_at-entry.result.now ≡ piece (strings b.args.piece_bytes.now b.args.piece_offsets.now) (get_or b.args.lookup.now ((b.loop-lo.lo + b.loop-lo.hi) / 2) 0) =
     b.string_at-entry.ensures ∙ ap (λ (n : ℕ). get_or (strings b.args.piece_bytes.now b.args.piece_offsets.now) n []) id in

@@ -1,6 +1,4 @@
 -- `model::search::find_piece_between` meets its contract: the loop keeps the laws of a search by halves.
--- the start of the call, from where the loop begins, and from where it stands
--- the loop from where two strings were compared, and how its middle entry stands to what is sought
 use Prim.Native.Nat.{◌-◌, min}
 use lib.ListN.{length}
 use Rattle.model.specs.Model.{strings}

@@ -15,10 +15,9 @@ order s = row_order s.args.left.now s.args.right.now s.args.l s.args.r
 abbrev end : Start → ℕ
 end s = min s.args.to (length s.args.left.now)
 
-middle : (b : After-pair_order) → let t = b.before.before.before.before in b.pair_order.result ≡ order (goal.at.After-pair_order b).Start ((b.loop-lo.lo + b.loop-lo.hi) / 2)
+middle : (b : After-pair_order) → b.pair_order.result ≡ order (goal.at.After-pair_order b).Start ((b.loop-lo.lo + b.loop-lo.hi) / 2)
 unfolding row_order
 middle b =
-    let t = b.before.before.before.before in
     let at = (b.loop-lo.lo + b.loop-lo.hi) / 2 in
     let right : b.number_at.result ≡ get_or b.args.right.now at 0 = b.number_at.ensures in
     b.pair_order.ensures ∙ ap (λ (n : ℕ). pair_order (get_or b.args.left.now at 0, n) (b.args.l, b.args.r)) right

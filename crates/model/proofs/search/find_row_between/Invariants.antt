@@ -1,6 +1,4 @@
 -- `model::search::find_row_between` meets its contract: the loop keeps the laws of a search by halves.
--- the start of the call, from where the loop stands
--- the loop from where two pairs were compared, and how its middle row stands to the pair that is sought
 use Prim.Native.Nat.{◌-◌, min}
 use lib.ListN.{length}
 use Rattle.model.specs.inner.Search.{row_order}

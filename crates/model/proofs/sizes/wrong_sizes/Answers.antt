@@ -1,5 +1,4 @@
 -- `model::sizes::wrong_sizes` meets its contract: each answer by the tests that led there.
--- the way back to the test of the pieces' sizes
 use borrow.Author.Tests.{eq-eqb, ne_eqb}
 use Rattle.model.proofs.sizes.wrong_sizes.Goals as goal
 

@@ -1,5 +1,4 @@
 -- `model::sizes::wrong_token_sizes` meets its contract: each answer by the tests that led there.
--- the way back to the start
 use mathlib.Core.Bool.{and-true}
 use Prim.Native.Nat.{◌-◌}
 use borrow.Author.Tests.{lt-ltb, le-ltb, eq-eqb, ne_eqb}

@@ -1,5 +1,4 @@
 -- `model::tables::string_at` meets its contract: by the laws of strings that lie end to end.
--- the way back to the start
 use mathlib.Core.Path.{sym}
 use borrow.Author.Rules.{rules}
 use Rattle.model.proofs.StringLaws.{string_is, string_past}

@@ -1,6 +1,5 @@
 -- `normalise::collapse::write_collapsed` meets its contract. The loop's invariant: `at` bytes of the output are written, and those of what
 -- follows from `i` on are left.
--- the way back to the start
 use Prim.Native.Nat.{◌-◌, ◌≤◌}
 use lib.ListN.{length, drop}
 use Rattle.normalise.specs.Steps.{collapsed}

@@ -1,5 +1,4 @@
 -- `normalise::finish::end` meets its contract: by where the text stands.
--- the way back to the start
 use mathlib.Core.Path.{ap, ◌∙◌}
 use Rattle.model.specs.declared.Answer.{Answer}
 use Rattle.model.specs.Answers.{Outcome}

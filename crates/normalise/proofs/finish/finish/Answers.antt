@@ -1,6 +1,4 @@
 -- `normalise::finish::finish` meets its contract: by the laws of a buffer that is filled and then cleared.
--- the way back to the start
--- the way back to where the result was found to fit
 use mathlib.Core.Path.{ap, ◌∙◌}
 use Rattle.model.specs.declared.Answer.{Answer}
 use Rattle.model.specs.Answers.{Outcome}

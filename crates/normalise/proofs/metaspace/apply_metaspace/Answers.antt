@@ -1,6 +1,4 @@
 -- `normalise::metaspace::apply_metaspace` meets its contract.
--- the way back to the start
--- the way back to where the length was measured
 use Rattle.normalise.specs.Spaces.{spaces_marked, mark_prepended}
 use Rattle.normalise.proofs.FitLaws.{Answered, answered, put-within, put_fits, put_too_long}
 use Rattle.normalise.proofs.metaspace.apply_metaspace.Goals as goal

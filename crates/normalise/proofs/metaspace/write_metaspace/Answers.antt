@@ -1,6 +1,4 @@
 -- `normalise::metaspace::write_metaspace` meets its contract.
--- the way back to the start
--- the way back to where the width of the lead was asked
 use mathlib.Core.Path.{◌≡◌, sym}
 use Prim.Native.Nat.{◌+◌, ◌≤◌}
 use native.Mathlib.Omega.{arith}

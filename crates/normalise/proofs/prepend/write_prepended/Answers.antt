@@ -1,5 +1,4 @@
 -- `normalise::prepend::write_prepended` meets its contract.
--- the way back to the start
 use native.Mathlib.Omega.{arith}
 use borrow.Author.Rules.{rules}
 use Rattle.utf8.proofs.Writing.{copied_two}

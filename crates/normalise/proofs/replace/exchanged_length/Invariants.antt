@@ -1,6 +1,5 @@
 -- `normalise::replace::exchanged_length` meets its contract. The loop's invariant: `n` bytes of the output are counted, and those of what
 -- follows from `i` on are left.
--- the way back to the start
 use Prim.Native.Nat.{◌-◌, ◌≤◌}
 use lib.ListN.{length, drop}
 use Rattle.normalise.specs.Steps.{replaced}

@@ -1,8 +1,5 @@
 -- `normalise::replace::write_inserted` meets its contract. The loop's invariant: `at` bytes of the output are written, and those of what
 -- follows from `i` on are left.
--- the way back to the start
--- the way back to the loop from the character of a turn
--- the way back to that character from the end of a turn
 use mathlib.Core.List.{[]}
 use Prim.Native.Nat.{◌-◌, ◌≤◌}
 use lib.ListN.{length, drop}

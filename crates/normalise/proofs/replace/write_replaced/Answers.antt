@@ -1,5 +1,4 @@
 -- `normalise::replace::write_replaced` meets its contract.
--- the way back to the start
 use Rattle.utf8.proofs.Starts.{no_elements}
 use Rattle.normalise.proofs.replace.write_replaced.Goals as goal
 

@@ -1,5 +1,4 @@
 -- `normalise::run::run_metaspace` meets its contract: by the turn that each place of the text takes.
--- the way back to the start
 use mathlib.Core.Bool.{Bool}
 use mathlib.Core.List.{List}
 use Prim.Native.Nat.{ℕ}

@@ -1,5 +1,4 @@
 -- `normalise::run::run_step` meets its contract: by the turn that each place of the text takes.
--- the way back to the start
 use Rattle.normalise.specs.Steps.{applied}
 use Rattle.normalise.proofs.RunLaws.{turn-given, turn_in_a, turn_in_b, turn_too_long}
 use Rattle.normalise.proofs.run.run_step.Goals as goal

@@ -1,6 +1,4 @@
 -- `normalise::run::run_steps` meets its contract. The loop's invariant: the steps from `i` on, run from where the text stands, end as all do.
--- the way back to the start
--- the way back to the loop from the end of a turn
 use mathlib.Core.Path.{◌≡◌}
 use Prim.Native.Nat.{◌-◌, ◌≤◌}
 use lib.ListN.{length, take, drop}

@@ -1,5 +1,4 @@
 -- `prepare::derive::derive_adjacency` meets its contract: the rows are put into the buffer whole.
--- the start of the call, from where the rows are filled
 use mathlib.Core.Path.{◌≡◌, sym, ap, ◌∙◌}
 use mathlib.Core.List.{List}
 use Prim.Native.Nat.{ℕ}

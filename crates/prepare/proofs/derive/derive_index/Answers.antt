@@ -1,7 +1,4 @@
 -- `prepare::derive::derive_index` meets its contract: what is derived one by one is the index, and behind it the buffer is cleared.
--- the start of the call, from where the kind is known
--- where the kind is known, from where the numbers are
--- ---- after the index is filled
 use mathlib.Core.Path.{◌≡◌, sym, ap, ◌∙◌}
 use mathlib.Core.Bool.{Bool}
 use mathlib.Core.List.{List}

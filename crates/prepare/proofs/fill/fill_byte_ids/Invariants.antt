@@ -1,5 +1,4 @@
 -- `prepare::fill::fill_byte_ids` meets its contract: with each byte one id more stands in its place.
--- the start of the call, from where the loop stands
 use Prim.Native.Nat.{◌-◌}
 use Rattle.model.specs.Model.{strings}
 use Rattle.index.specs.Index.{byte_id}

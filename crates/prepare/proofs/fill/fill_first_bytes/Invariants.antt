@@ -1,5 +1,4 @@
 -- `prepare::fill::fill_first_bytes` meets its contract: each walk goes on where the last ended, and one number more stands in its place.
--- the start of the call, from where the loop stands
 use Prim.Native.Nat.{◌-◌}
 use Rattle.model.specs.Model.{strings}
 use Rattle.index.specs.Index.{first_byte_start}

@@ -1,5 +1,4 @@
 -- `prepare::fill::fill_index` meets its contract: the words of the pieces, and behind them those of the tokens.
--- the start of the call, from where it lends the buffer first
 use native.Mathlib.Omega.{arith}
 use Rattle.model.specs.Model.{strings}
 use Rattle.prepare.proofs.LayoutLaws.{index-filled}

@@ -1,5 +1,4 @@
 -- `prepare::fill::fill_piece_index` meets its contract: where first bytes begin, and behind that the ids of single bytes.
--- the start of the call, from where first bytes are filled in
 use Rattle.model.specs.Model.{strings}
 use Rattle.prepare.proofs.LayoutLaws.{piece-index-filled}
 use Rattle.prepare.proofs.fill.fill_piece_index.Goals as goal

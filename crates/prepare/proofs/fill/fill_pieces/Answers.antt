@@ -1,5 +1,4 @@
 -- `prepare::fill::fill_pieces` meets its contract: its parts are written one after the other.
--- the start of the call, from where the mark is looked for, and from where its id is known
 use mathlib.Core.Path.{◌≡◌, refl, sym, ap, ◌∙◌}
 use mathlib.Core.List.{List, ◌++◌}
 use Prim.Native.Nat.{ℕ, ◌≤◌}

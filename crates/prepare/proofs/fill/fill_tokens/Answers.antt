@@ -1,5 +1,4 @@
 -- `prepare::fill::fill_tokens` meets its contract: the words of both lists are written one after the other.
--- the start of the call, from where the first list's words stand
 use mathlib.Core.Path.{◌≡◌, refl, ◌∙◌}
 use mathlib.Core.List.{List, ◌++◌}
 use Prim.Native.Nat.{ℕ}

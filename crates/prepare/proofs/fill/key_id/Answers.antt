@@ -1,5 +1,4 @@
 -- `prepare::fill::key_id` meets its contract.
--- the start of the call, from where the key was looked for
 use mathlib.Core.Path.{◌∙◌}
 use mathlib.Core.List.{List}
 use Prim.Native.Nat.{ℕ}

@@ -1,5 +1,4 @@
 -- `prepare::pairs::fill_first` meets its contract. The loop's invariant: the words are those of the table of the first `i` rows.
--- the start of the call, from where the loop stands
 use mathlib.Core.Path.{◌≡◌}
 use Prim.Native.Nat.{◌-◌, ◌≤◌}
 use lib.ListN.{length}

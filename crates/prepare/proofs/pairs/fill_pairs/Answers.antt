@@ -1,5 +1,4 @@
 -- `prepare::pairs::fill_pairs` meets its contract: the second table is written behind the first.
--- ---- from where the first table is filled
 use mathlib.Core.Path.{◌≡◌, ap, ◌∙◌}
 use mathlib.Core.List.{List, ◌++◌}
 use Prim.Native.Nat.{ℕ}

@@ -1,9 +1,5 @@
 -- `prepare::pairs::fill_second` meets its contract. The loop's invariant: behind the words of the first table stand those of the second over
 -- the first `i` rows.
--- ---- from where the second table is cleared
--- the same, from where the loop stands
--- ---- from where the row's slot of the first table is known
--- ---- from where its slot of the second is known
 use mathlib.Core.Path.{◌≡◌}
 use Prim.Native.Nat.{◌-◌, ◌≤◌}
 use lib.ListN.{length, take}

@@ -1,5 +1,4 @@
 -- `prepare::rows::put_rows` meets its contract: one word more of the row and its zeros stands in the buffer.
--- the start of the call, from where the loop stands
 use Prim.Native.Nat.{◌-◌}
 use lib.ListN.{length}
 use Rattle.prepare.proofs.PutLaws.{Putting}

@@ -1,5 +1,4 @@
 -- `prepare::walk::first_below_from` meets its contract: from entry to entry the walk ends where it did from the first on.
--- the start of the call, from where the loop stands, and that from where a first byte was read
 use mathlib.Core.Path.{◌≡◌}
 use Prim.Native.Nat.{◌-◌}
 use lib.ListN.{length}

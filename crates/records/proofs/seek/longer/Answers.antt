@@ -1,5 +1,4 @@
 -- `records::seek::longer` meets its contract: by whether the content stands there, and how long the longest so far is.
--- the start of the call, and the content of its token
 use mathlib.Core.Path.{◌≡◌, sym, ◌∙◌}
 use mathlib.Core.Bool.{true}
 use mathlib.Core.List.{List}

@@ -1,4 +1,3 @@
--- The loop's invariant: the longest so far is that of the records from `row` on.
 use Rattle.std.proofs.Common.{◌≡◌, ◌≤◌, length}
 use Rattle.records.proofs.LongestLaws.{best_from}
 use Rattle.records.proofs.seek.longest_at.Given as goal

@@ -1,5 +1,4 @@
 -- `records::strips::standing_of` meets its contract: by whether the content is empty, and whether it stands at the place.
--- the start of the call, and its token
 use mathlib.Core.Path.{◌≡◌, sym, ap, ◌∙◌}
 use mathlib.Core.Bool.{true}
 use Prim.Native.Nat.{◌<◌}

@@ -1,5 +1,4 @@
 -- `sections::first::content_length` meets its contract: a content ends before the place that its second offset names.
--- the start of the call, from where the content is known
 use mathlib.Core.Path.{sym, ap, ap₂, ◌∙◌}
 use Prim.Native.Nat.{ℕ}
 use native.Mathlib.Omega.{arith}

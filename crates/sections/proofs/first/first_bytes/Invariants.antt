@@ -1,5 +1,4 @@
 -- `sections::first::first_bytes` meets its contract. The loop's invariant: noting the contents from `row` on makes what noting all of them makes.
--- the start of the call, from where the loop begins, and its contents
 use mathlib.Core.Path.{◌≡◌}
 use Prim.Native.Nat.{◌-◌, ◌≤◌}
 use lib.ListN.{length, drop}

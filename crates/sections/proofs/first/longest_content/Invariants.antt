@@ -1,5 +1,4 @@
 -- `sections::first::longest_content` meets its contract. The loop's invariant: `long` is the length of the longest content from `row` on.
--- the start of the call, from where the loop begins, and its contents
 use mathlib.Core.Path.{◌≡◌}
 use Prim.Native.Nat.{◌≤◌}
 use lib.ListN.{length, drop}

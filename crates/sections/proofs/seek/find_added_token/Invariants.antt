@@ -1,5 +1,4 @@
 -- `sections::seek::find_added_token` meets its contract. The loop's invariant: a search from `place` on finds what one from `from` on does.
--- the start of the call, from where the loop stands, and its contents
 use mathlib.Core.Path.{◌≡◌}
 use Prim.Native.Nat.{◌-◌}
 use lib.ListN.{length, drop}

@@ -1,5 +1,4 @@
 -- `sections::seek::longest_at` meets its contract. The loop's invariant: `best` is the longest of the rows from `row` on, and `long` its length.
--- the start of the call, from where the loop begins, and its contents
 use Prim.Native.Nat.{◌≤◌}
 use lib.ListN.{length}
 use Rattle.model.specs.Model.{strings}

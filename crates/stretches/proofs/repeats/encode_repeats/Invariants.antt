@@ -1,8 +1,5 @@
 -- `stretches::repeats::encode_repeats` meets its contract. The loop's invariant: the units before `from` are written and those from there on follow,
 -- and what each slot remembers holds.
--- From what a branch knows back to where the slot was found.
--- From what was copied to that branch, and from what was counted after it to what was copied.
--- The same where the unit is encoded.
 use Prim.Native.Nat.{◌-◌, ◌≤◌}
 use mathlib.Core.Bool.{false}
 use lib.ListN.{length}

@@ -1,5 +1,4 @@
 -- `stretches::stretch::encode_units` meets its contract: the first unit, and then the others behind it.
--- The ways back from where units are left to the first unit's ids, and from there to where it ends.
 use Prim.Native.Nat.{ℕ, ◌-◌, ◌≤◌, ◌*◌, ◌<◌}
 use mathlib.Core.Bool.{Bool}
 use mathlib.Core.Path.{◌≡◌, ap, ◌∙◌}
@@ -43,7 +42,7 @@ first_of f = let s = (goal.at.After-next_unit-next f).Start in unit_writer (row_
 keeps-first : (f : After-next_unit-next) → Keeps (first_of f)
 keeps-first f = let s = (goal.at.After-next_unit-next f).Start in keeps_unit (row_of s) (own_of s) s.args.fallback.now _
 
--- The buffer after the first call; what that lies.before.before.before in it.
+-- The buffer after the first call; what that wrote lies in it.
 abbrev first_left : After-encode_unit-written → List ℕ
 first_left w = w.encode_unit-written.new.out
 

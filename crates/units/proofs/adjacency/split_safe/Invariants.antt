@@ -1,5 +1,4 @@
 -- `units::adjacency::split_safe` meets its contract. The loop's invariant: noting the pairs of the pieces from `id` on gives the rows of all.
--- the start of the call, from where the loop stands
 use mathlib.Core.Path.{◌≡◌}
 use Prim.Native.Nat.{◌-◌, ◌≤◌}
 use Rattle.utf8.specs.Lists.{neighbours, join_map}

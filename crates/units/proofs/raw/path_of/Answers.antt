@@ -1,5 +1,4 @@
 -- `units::raw::path_of` meets its contract: by how many steps there are, and the tests that led to each answer.
--- the start of the call, from where the steps are two
 use mathlib.Core.Path.{sym, ap, ◌∙◌}
 use mathlib.Core.Bool.{true, false}
 use borrow.Author.Rules.{rules}

@@ -1,5 +1,4 @@
 -- `units::spans::lies_around` meets its contract: the part before the mark is what precedes, the part after it what follows.
--- the start of the call, from where the place is wide
 use mathlib.Core.Path.{sym, ◌∙◌}
 use Rattle.units.proofs.SpanLaws.{apart-before, around_by}
 use Rattle.units.proofs.spans.lies_around.Goals as goal

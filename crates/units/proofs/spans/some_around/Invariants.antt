@@ -1,5 +1,4 @@
 -- `units::spans::some_around` meets its contract. The loop's invariant: a crossing lies around exactly if one from the words at `at` on does.
--- the start of the call, from where the loop stands
 use mathlib.Core.Path.{◌≡◌}
 use Prim.Native.Nat.{◌-◌, ◌≤◌}
 use Rattle.utf8.specs.Lists.{any}
