@@ -28,11 +28,11 @@ lent s =
       scratch_b = s.args.scratch_b.now;
     }
 
-text-bytes : (k : After-slice_known-3-1) → Small k.args.text.now
-text-bytes k i = omega (arith, k.type_inv.text i)
+text_bytes : (k : After-slice_known-3-1) → Small k.args.text.now
+text_bytes k i = omega (arith, k.type_inv.text i)
 
-step-bytes : (k : After-slice_known-3-1) → Small k.args.step_bytes.now
-step-bytes k i = omega (arith, k.type_inv.step_bytes i)
+step_bytes_lem : (k : After-slice_known-3-1) → Small k.args.step_bytes.now
+step_bytes_lem k i = omega (arith, k.type_inv.step_bytes i)
 
 path_at : (r : After-raw_path_from-path) → r.raw_path_from-path.result ≡ raw_path (lent (goal.at.After-raw_path_from-path r).Start).model
 path_at r = path_read (lent (goal.at.After-raw_path_from-path r).Start).model r.requires.index_derived r.number_at.ensures r.raw_path_from-path.ensures
@@ -63,7 +63,7 @@ returns-in-Present c =
     let r = (goal.at.returns-in-Present c).After-raw_path_from-path in
     let k = (goal.at.returns-in-Present c).After-slice_known-3-1 in
     let s = (goal.at.returns-in-Present c).Start in
-    raw_text (lent (goal.at.returns-in-Present c).Start) _ r.valid_prefix-prefix.ensures r.if-text-gt-TEXT_LIMIT.false k.requires.accepted r.if-prefix-text.false _ (sym (path_at r) ∙ c.in-Present.is) (text-bytes k) (c.encode_raw-answer.ensures ∙ raw_lent (lent s).model s.requires.adjacency_derived s.requires.index_derived _ _) c.clear.ensures c.clear-in-Present.ensures
+    raw_text (lent (goal.at.returns-in-Present c).Start) _ r.valid_prefix-prefix.ensures r.if-text-gt-TEXT_LIMIT.false k.requires.accepted r.if-prefix-text.false _ (sym (path_at r) ∙ c.in-Present.is) (text_bytes k) (c.encode_raw-answer.ensures ∙ raw_lent (lent s).model s.requires.adjacency_derived s.requires.index_derived _ _) c.clear.ensures c.clear-in-Present.ensures
 
 pub shape_of-out-else-continuation : goal.shape_of-out-else-continuation
 shape_of-out-else-continuation c = c.out-in-Absent-1.given
@@ -82,4 +82,4 @@ returns-else-continuation c =
     let r = (goal.at.returns-else-continuation c).After-raw_path_from-path in
     let k = (goal.at.returns-else-continuation c).After-slice_known-3-1 in
     let s = (goal.at.returns-else-continuation c).Start in
-    normal_text (lent (goal.at.returns-else-continuation c).Start) _ r.valid_prefix-prefix.ensures r.if-text-gt-TEXT_LIMIT.false k.requires.accepted r.if-prefix-text.false (sym (path_at r) ∙ c.in-Absent.is) c.if-continuation.false (text-bytes k) (step-bytes k) (c.encode_normal-answer.ensures ∙ normal_lent (lent s).model s.requires.adjacency_derived s.requires.index_derived _ _ _ _ _) (c.clear-in-Absent.ensures ∙ ap zeros c.scratch_a-in-Absent-1.given) (c.clear-in-Absent-2.ensures ∙ ap zeros c.scratch_b-in-Absent-1.given)
+    normal_text (lent (goal.at.returns-else-continuation c).Start) _ r.valid_prefix-prefix.ensures r.if-text-gt-TEXT_LIMIT.false k.requires.accepted r.if-prefix-text.false (sym (path_at r) ∙ c.in-Absent.is) c.if-continuation.false (text_bytes k) (step_bytes_lem k) (c.encode_normal-answer.ensures ∙ normal_lent (lent s).model s.requires.adjacency_derived s.requires.index_derived _ _ _ _ _) (c.clear-in-Absent.ensures ∙ ap zeros c.scratch_a-in-Absent-1.given) (c.clear-in-Absent-2.ensures ∙ ap zeros c.scratch_b-in-Absent-1.given)

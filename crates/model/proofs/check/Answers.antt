@@ -21,68 +21,68 @@ lent s =
     (token_list s.args.second_bytes.now s.args.second_offsets.now s.args.second_ids.now s.args.second_lstrip.now s.args.second_rstrip.now)
     s.args.step_bytes.now s.args.steps s.args.step_count s.args.metaspace
 
-abbrev after-1 : Else-wrong_sizes → Model
-after-1 e = lent (goal.at.Else-wrong_sizes e).Start
+abbrev after_1 : Else-wrong_sizes → Model
+after_1 e = lent (goal.at.Else-wrong_sizes e).Start
 
-abbrev after-2 : Else-offsets_astray → Model
-after-2 e = after-1 (goal.at.Else-offsets_astray e).Else-wrong_sizes
+abbrev after_2 : Else-offsets_astray → Model
+after_2 e = after_1 (goal.at.Else-offsets_astray e).Else-wrong_sizes
 
-abbrev after-3 : Else-bad_piece → Model
-after-3 e = after-2 (goal.at.Else-bad_piece e).Else-offsets_astray
+abbrev after_3 : Else-bad_piece → Model
+after_3 e = after_2 (goal.at.Else-bad_piece e).Else-offsets_astray
 
-abbrev after-4 : Else-bad_lookup → Model
-after-4 e = after-3 (goal.at.Else-bad_lookup e).Else-bad_piece
+abbrev after_4 : Else-bad_lookup → Model
+after_4 e = after_3 (goal.at.Else-bad_lookup e).Else-bad_piece
 
-abbrev after-5 : Else-bad_fallback → Model
-after-5 e = after-4 (goal.at.Else-bad_fallback e).Else-bad_lookup
+abbrev after_5 : Else-bad_fallback → Model
+after_5 e = after_4 (goal.at.Else-bad_fallback e).Else-bad_lookup
 
-abbrev after-6 : Else-bad_row → Model
-after-6 e = after-5 (goal.at.Else-bad_row e).Else-bad_fallback
+abbrev after_6 : Else-bad_row → Model
+after_6 e = after_5 (goal.at.Else-bad_row e).Else-bad_fallback
 
-abbrev after-7 : Else-bad_token → Model
-after-7 e = after-6 (goal.at.Else-bad_token e).Else-bad_row
+abbrev after_7 : Else-bad_token → Model
+after_7 e = after_6 (goal.at.Else-bad_token e).Else-bad_row
 
-abbrev after-8 : Else-bad_token-2 → Model
-after-8 e = after-7 (goal.at.Else-bad_token-2 e).Else-bad_token
+abbrev after_8 : Else-bad_token-2 → Model
+after_8 e = after_7 (goal.at.Else-bad_token-2 e).Else-bad_token
 
 -- what the tests of sizes and of the first token list said
-fine-sizes : (e : Else-wrong_sizes) → wrong_sizes (after-1 e) ≡ false
+fine_sizes : (e : Else-wrong_sizes) → wrong_sizes (after_1 e) ≡ false
 unfolding wrong_sizes wrong_list_sizes steps_of
-fine-sizes e = sym e.wrong_sizes.ensures ∙ e.if-wrong_sizes.false
+fine_sizes e = sym e.wrong_sizes.ensures ∙ e.if-wrong_sizes.false
 
-fine-first : (e : Else-bad_token) → bad_token (contents (after-7 e).first) ≡ false
+fine-first : (e : Else-bad_token) → bad_token (contents (after_7 e).first) ≡ false
 unfolding contents
 fine-first e = sym e.bad_token.ensures ∙ e.if-bad_token.false
 
 -- which tests still decide behind each one that did not apply
-left-1 : (e : Else-wrong_sizes) → Undecided 1 (after-1 e)
+left_1 : (e : Else-wrong_sizes) → Undecided 1 (after_1 e)
 unfolding model_tests text_too_long
-left-1 e = others_decide (nothing_decided (after-1 e)) (rw (fine-sizes e))
+left_1 e = others_decide (nothing_decided (after_1 e)) (rw (fine_sizes e))
 
-left-2 : (e : Else-offsets_astray) → Undecided 2 (after-2 e)
+left_2 : (e : Else-offsets_astray) → Undecided 2 (after_2 e)
 unfolding model_tests offsets_astray steps_of
-left-2 e = others_decide (left-1 (goal.at.Else-offsets_astray e).Else-wrong_sizes) (sym e.offsets_astray.ensures ∙ e.if-offsets_astray.false)
+left_2 e = others_decide (left_1 (goal.at.Else-offsets_astray e).Else-wrong_sizes) (sym e.offsets_astray.ensures ∙ e.if-offsets_astray.false)
 
-left-3 : (e : Else-bad_piece) → Undecided 3 (after-3 e)
+left_3 : (e : Else-bad_piece) → Undecided 3 (after_3 e)
 unfolding model_tests pieces_of
-left-3 e = others_decide (left-2 (goal.at.Else-bad_piece e).Else-offsets_astray) (sym e.bad_piece.ensures ∙ e.if-bad_piece.false)
+left_3 e = others_decide (left_2 (goal.at.Else-bad_piece e).Else-offsets_astray) (sym e.bad_piece.ensures ∙ e.if-bad_piece.false)
 
-left-4 : (e : Else-bad_lookup) → Undecided 4 (after-4 e)
+left_4 : (e : Else-bad_lookup) → Undecided 4 (after_4 e)
 unfolding model_tests pieces_of
-left-4 e = others_decide (left-3 (goal.at.Else-bad_lookup e).Else-bad_piece) (sym e.bad_lookup.ensures ∙ e.if-bad_lookup.false)
+left_4 e = others_decide (left_3 (goal.at.Else-bad_lookup e).Else-bad_piece) (sym e.bad_lookup.ensures ∙ e.if-bad_lookup.false)
 
-left-5 : (e : Else-bad_fallback) → Undecided 5 (after-5 e)
+left_5 : (e : Else-bad_fallback) → Undecided 5 (after_5 e)
 unfolding model_tests pieces_of
-left-5 e = others_decide (left-4 (goal.at.Else-bad_fallback e).Else-bad_lookup) (sym e.bad_fallback.ensures ∙ e.if-bad_fallback.false)
+left_5 e = others_decide (left_4 (goal.at.Else-bad_fallback e).Else-bad_lookup) (sym e.bad_fallback.ensures ∙ e.if-bad_fallback.false)
 
-left-6 : (e : Else-bad_row) → Undecided 6 (after-6 e)
+left_6 : (e : Else-bad_row) → Undecided 6 (after_6 e)
 unfolding model_tests pieces_of
-left-6 e = others_decide (left-5 (goal.at.Else-bad_row e).Else-bad_fallback) (sym e.bad_row.ensures ∙ e.if-bad_row.false)
+left_6 e = others_decide (left_5 (goal.at.Else-bad_row e).Else-bad_fallback) (sym e.bad_row.ensures ∙ e.if-bad_row.false)
 
-left-7 : (e : Else-bad_token-2) → Undecided 7 (after-8 e)
+left_7 : (e : Else-bad_token-2) → Undecided 7 (after_8 e)
 unfolding model_tests contents
-left-7 e =
-    others_decide (left-6 (goal.at.Else-bad_token-2 e).Else-bad_row)
+left_7 e =
+    others_decide (left_6 (goal.at.Else-bad_token-2 e).Else-bad_row)
     (ap₂ ◌||◌ (fine-first (goal.at.Else-bad_token-2 e).Else-bad_token) (sym e.bad_token-2.ensures ∙ e.if-bad_token-2.false))
 
 -- a refusal by the first of the tests that still decide
@@ -97,63 +97,63 @@ returns-then-wrong_sizes c =
 
 pub offsets_astray-requires : goal.offsets_astray-requires
 offsets_astray-requires c =
-    let sizes = sizes_fine (after-1 c) (fine-sizes c) in
+    let sizes = sizes_fine (after_1 c) (fine_sizes c) in
     (sizes.piece_row, sizes.first.row, sizes.second.row, sizes.steps)
 
 pub returns-then-offsets_astray : goal.returns-then-offsets_astray
 unfolding model_tests offsets_astray steps_of
 returns-then-offsets_astray c =
-    refusal (after-1 (goal.at.returns-then-offsets_astray c).Else-wrong_sizes) _ (omega arith) c.refused-then-offsets_astray.ensures (left-1 (goal.at.returns-then-offsets_astray c).Else-wrong_sizes)
+    refusal (after_1 (goal.at.returns-then-offsets_astray c).Else-wrong_sizes) _ (omega arith) c.refused-then-offsets_astray.ensures (left_1 (goal.at.returns-then-offsets_astray c).Else-wrong_sizes)
     (sym c.offsets_astray.ensures ∙ c.if-offsets_astray.true)
 
 pub returns-then-bad_piece : goal.returns-then-bad_piece
 unfolding model_tests pieces_of
 returns-then-bad_piece c =
-    refusal (after-2 (goal.at.returns-then-bad_piece c).Else-offsets_astray) _ (omega arith) c.refused-then-bad_piece.ensures (left-2 (goal.at.returns-then-bad_piece c).Else-offsets_astray)
+    refusal (after_2 (goal.at.returns-then-bad_piece c).Else-offsets_astray) _ (omega arith) c.refused-then-bad_piece.ensures (left_2 (goal.at.returns-then-bad_piece c).Else-offsets_astray)
     (sym c.bad_piece.ensures ∙ c.if-bad_piece.true)
 
 pub returns-then-bad_lookup : goal.returns-then-bad_lookup
 unfolding model_tests pieces_of
 returns-then-bad_lookup c =
-    refusal (after-3 (goal.at.returns-then-bad_lookup c).Else-bad_piece) _ (omega arith) c.refused-then-bad_lookup.ensures (left-3 (goal.at.returns-then-bad_lookup c).Else-bad_piece)
+    refusal (after_3 (goal.at.returns-then-bad_lookup c).Else-bad_piece) _ (omega arith) c.refused-then-bad_lookup.ensures (left_3 (goal.at.returns-then-bad_lookup c).Else-bad_piece)
     (sym c.bad_lookup.ensures ∙ c.if-bad_lookup.true)
 
 pub returns-then-bad_fallback : goal.returns-then-bad_fallback
 unfolding model_tests pieces_of
 returns-then-bad_fallback c =
-    refusal (after-4 (goal.at.returns-then-bad_fallback c).Else-bad_lookup) _ (omega arith) c.refused-then-bad_fallback.ensures (left-4 (goal.at.returns-then-bad_fallback c).Else-bad_lookup)
+    refusal (after_4 (goal.at.returns-then-bad_fallback c).Else-bad_lookup) _ (omega arith) c.refused-then-bad_fallback.ensures (left_4 (goal.at.returns-then-bad_fallback c).Else-bad_lookup)
     (sym c.bad_fallback.ensures ∙ c.if-bad_fallback.true)
 
 pub returns-then-bad_row : goal.returns-then-bad_row
 unfolding model_tests pieces_of
 returns-then-bad_row c =
-    refusal (after-5 (goal.at.returns-then-bad_row c).Else-bad_fallback) _ (omega arith) c.refused-then-bad_row.ensures (left-5 (goal.at.returns-then-bad_row c).Else-bad_fallback)
+    refusal (after_5 (goal.at.returns-then-bad_row c).Else-bad_fallback) _ (omega arith) c.refused-then-bad_row.ensures (left_5 (goal.at.returns-then-bad_row c).Else-bad_fallback)
     (sym c.bad_row.ensures ∙ c.if-bad_row.true)
 
 pub returns-then-bad_token : goal.returns-then-bad_token
 unfolding model_tests contents
 returns-then-bad_token c =
-    refusal (after-6 (goal.at.returns-then-bad_token c).Else-bad_row) _ (omega arith) c.refused-then-bad_token.ensures (left-6 (goal.at.returns-then-bad_token c).Else-bad_row)
+    refusal (after_6 (goal.at.returns-then-bad_token c).Else-bad_row) _ (omega arith) c.refused-then-bad_token.ensures (left_6 (goal.at.returns-then-bad_token c).Else-bad_row)
     (ap₂ ◌||◌ (sym c.bad_token.ensures ∙ c.if-bad_token.true) refl)
 
 pub returns-then-bad_token-2 : goal.returns-then-bad_token-2
 unfolding model_tests contents
 returns-then-bad_token-2 c =
-    refusal (after-7 (goal.at.returns-then-bad_token-2 c).Else-bad_token) _ (omega arith) c.refused-then-bad_token-2.ensures (left-6 (goal.at.returns-then-bad_token-2 c).Else-bad_row)
+    refusal (after_7 (goal.at.returns-then-bad_token-2 c).Else-bad_token) _ (omega arith) c.refused-then-bad_token-2.ensures (left_6 (goal.at.returns-then-bad_token-2 c).Else-bad_row)
     (ap₂ ◌||◌ (fine-first (goal.at.returns-then-bad_token-2 c).Else-bad_token) (sym c.bad_token-2.ensures ∙ c.if-bad_token-2.true))
 
 pub steps_fail-requires : goal.steps_fail-requires
-steps_fail-requires c = (sizes_fine (after-1 (goal.at.steps_fail-requires c).Else-wrong_sizes) (fine-sizes (goal.at.steps_fail-requires c).Else-wrong_sizes)).steps
+steps_fail-requires c = (sizes_fine (after_1 (goal.at.steps_fail-requires c).Else-wrong_sizes) (fine_sizes (goal.at.steps_fail-requires c).Else-wrong_sizes)).steps
 
 pub returns-then-steps_fail : goal.returns-then-steps_fail
 unfolding model_tests bad_step span_fails steps_of
 returns-then-steps_fail c =
-    refusal (after-8 (goal.at.returns-then-steps_fail c).Else-bad_token-2) _ (omega arith) c.refused-then-steps_fail.ensures (left-7 (goal.at.returns-then-steps_fail c).Else-bad_token-2)
+    refusal (after_8 (goal.at.returns-then-steps_fail c).Else-bad_token-2) _ (omega arith) c.refused-then-steps_fail.ensures (left_7 (goal.at.returns-then-steps_fail c).Else-bad_token-2)
     (sym c.steps_fail.ensures ∙ c.if-steps_fail.true)
 
 pub returns : goal.returns
 unfolding model_tests bad_step span_fails steps_of
 returns c =
     let b = (goal.at.returns c).Else-bad_token-2 in
-    let left-8 : Undecided 8 (after-8 b) = others_decide (left-7 b) (sym c.steps_fail.ensures ∙ c.if-steps_fail.false) in
-    c.done.ensures ∙ sym (accepts (after-8 b) left-8.number)
+    let left_8 : Undecided 8 (after_8 b) = others_decide (left_7 b) (sym c.steps_fail.ensures ∙ c.if-steps_fail.false) in
+    c.done.ensures ∙ sym (accepts (after_8 b) left_8.number)

@@ -17,9 +17,9 @@ use Rattle.decode.proofs.feed.feed.Goals.{After-is_broken}
 few : (b : After-is_broken) → b.args.s.count ≤ 3
 few b = omega (arith, held-count b.args.s b.requires.sound, held_short b.args.s b.requires.sound)
 
-whole-empty : (b : ℕ) → is_broken (held_by (holding [] true)) b ≡ false
+whole_empty : (b : ℕ) → is_broken (held_by (holding [] true)) b ≡ false
 unfolding is_open
-whole-empty b = ap (λ (h : List ℕ). is_broken h b) (held-holding [] true refl) ∙ broken_none b
+whole_empty b = ap (λ (h : List ℕ). is_broken h b) (held-holding [] true refl) ∙ broken_none b
 
 pub is_broken-requires : goal.is_broken-requires
 is_broken-requires c = c.requires.sound
@@ -36,7 +36,7 @@ put_strays-next-requires c =
     omega (arith, few b, b.requires.at_bound)
 
 pub take_in-requires-2 : goal.take_in-requires-2
-take_in-requires-2 c = let b = (goal.at.take_in-requires-2 c).After-is_broken in record { sound = rw c.empty.ensures (sound_empty true); unbroken = rw c.empty.ensures (whole-empty b.args.b); at_bound = omega (arith, few b, put-at (join (replicate b.args.s.count replacement)) _ _ c.put_strays-next.ensures, strays_long b.args.s.count, b.requires.at_bound) }
+take_in-requires-2 c = let b = (goal.at.take_in-requires-2 c).After-is_broken in record { sound = rw c.empty.ensures (sound_empty true); unbroken = rw c.empty.ensures (whole_empty b.args.b); at_bound = omega (arith, few b, put-at (join (replicate b.args.s.count replacement)) _ _ c.put_strays-next.ensures, strays_long b.args.s.count, b.requires.at_bound) }
 
 pub returns : goal.returns
 returns c =

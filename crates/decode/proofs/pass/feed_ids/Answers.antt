@@ -55,14 +55,14 @@ quick r = quick_at r.args.piece_bytes.now r.wide-start.result (length r.string_a
 ready : (t : Then-is_ready) → (is_idle t.loop-i.decoder && (all_or_none t.loop-i.at (length t.loop-i.out) && quick (goal.at.Then-is_ready t).After-is_ready)) ≡ true
 ready t = sym t.is_ready.ensures ∙ t.if-is_ready.true
 
-is-idle : (t : Then-is_ready) → is_idle t.loop-i.decoder ≡ true
-is-idle t = and_left (is_idle t.loop-i.decoder) _ (ready t)
+is_idle_lem : (t : Then-is_ready) → is_idle t.loop-i.decoder ≡ true
+is_idle_lem t = and_left (is_idle t.loop-i.decoder) _ (ready t)
 
 has_room : (t : Then-is_ready) → all_or_none t.loop-i.at (length t.loop-i.out) ≡ true
 has_room t = and_left (all_or_none t.loop-i.at (length t.loop-i.out)) (quick (goal.at.Then-is_ready t).After-is_ready) (and_right (is_idle t.loop-i.decoder) _ (ready t))
 
-is-quick : (t : Then-is_ready) → quick (goal.at.Then-is_ready t).After-is_ready ≡ true
-is-quick t = and_right (all_or_none t.loop-i.at (length t.loop-i.out)) (quick (goal.at.Then-is_ready t).After-is_ready) (and_right (is_idle t.loop-i.decoder) _ (ready t))
+is_quick : (t : Then-is_ready) → quick (goal.at.Then-is_ready t).After-is_ready ≡ true
+is_quick t = and_right (all_or_none t.loop-i.at (length t.loop-i.out)) (quick (goal.at.Then-is_ready t).After-is_ready) (and_right (is_idle t.loop-i.decoder) _ (ready t))
 
 pub loop-i-init : goal.loop-i-init
 loop-i-init c =
@@ -73,14 +73,14 @@ is_ready-requires c = record { start_bound = c.wide-start.ensures.1; at_bound = 
 
 pub put_quick-at-requires : goal.put_quick-at-requires
 put_quick-at-requires c = let t = (goal.at.put_quick-at-requires c).Then-is_ready in
-    record { quick = is-quick t; room_for_all = has_room t; at_bound = omega (arith, t.loop-i.invariant.2.room) }
+    record { quick = is_quick t; room_for_all = has_room t; at_bound = omega (arith, t.loop-i.invariant.2.room) }
 
 pub loop-i-preserved-then-is_ready : goal.loop-i-preserved-then-is_ready
 loop-i-preserved-then-is_ready c =
     let t = (goal.at.loop-i-preserved-then-is_ready c).Then-is_ready in
     let r = (goal.at.loop-i-preserved-then-is_ready c).After-string_at-piece in
     let a = (goal.at.loop-i-preserved-then-is_ready c).At-loop-i in
-    (omega (arith, inside r), search rules, passing_quick (here a) (later a) (next a (inside r)) a.loop-i.invariant.2 a.args.piece_bytes.now _ _ (placed (goal.at.loop-i-preserved-then-is_ready c).After-is_ready) (is-idle t) (has_room t) (is-quick t) _ c.put_quick-at.ensures)
+    (omega (arith, inside r), search rules, passing_quick (here a) (later a) (next a (inside r)) a.loop-i.invariant.2 a.args.piece_bytes.now _ _ (placed (goal.at.loop-i-preserved-then-is_ready c).After-is_ready) (is_idle_lem t) (has_room t) (is_quick t) _ c.put_quick-at.ensures)
 
 pub feed_piece-progress-requires : goal.feed_piece-progress-requires
 feed_piece-progress-requires c = let p = (goal.at.feed_piece-progress-requires c).After-string_at-piece in

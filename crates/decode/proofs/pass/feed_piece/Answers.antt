@@ -30,9 +30,9 @@ inside n = n.loop-i-test.true
 marked : (t : Then-is_plain_mark) → starts_with mark (drop t.loop-i.i t.args.bytes.now) ≡ true
 marked t = and_right (is_idle t.loop-i.progress.decoder) _ (sym t.is_plain_mark.ensures ∙ t.if-is_plain_mark.true)
 
-marked-inside : (t : Then-is_plain_mark) → t.loop-i.i + 3 ≤ length t.args.bytes.now
+marked_inside : (t : Then-is_plain_mark) → t.loop-i.i + 3 ≤ length t.args.bytes.now
 unfolding mark
-marked-inside t =
+marked_inside t =
     omega (arith, starts_length mark (drop t.loop-i.i t.args.bytes.now) (marked t), length-drop t.loop-i.i t.args.bytes.now)
 
 behind_mark : (t : Then-is_plain_mark) → drop t.loop-i.i t.args.bytes.now ≡ mark ++ drop (t.loop-i.i + 3) t.args.bytes.now
@@ -52,17 +52,17 @@ put_mark-progress-requires c = let l = c.loop-i.invariant.2 in
 pub overflow_add-i : goal.overflow_add-i
 overflow_add-i c =
     let t = (goal.at.overflow_add-i c).Then-is_plain_mark in
-    omega (arith, marked-inside t)
+    omega (arith, marked_inside t)
 
 pub loop-i-smaller-then-is_plain_mark : goal.loop-i-smaller-then-is_plain_mark
 loop-i-smaller-then-is_plain_mark c =
     let t = (goal.at.loop-i-smaller-then-is_plain_mark c).Then-is_plain_mark in
-    omega (arith, marked-inside t)
+    omega (arith, marked_inside t)
 
 pub loop-i-preserved-then-is_plain_mark : goal.loop-i-preserved-then-is_plain_mark
 loop-i-preserved-then-is_plain_mark c =
     let t = (goal.at.loop-i-preserved-then-is_plain_mark c).Then-is_plain_mark in
-    (omega (arith, marked-inside t), search rules, feeding_next mark (drop (t.loop-i.i + 3) t.args.bytes.now) (behind_mark t) t.loop-i.invariant.2 _ c.put_mark-progress.ensures)
+    (omega (arith, marked_inside t), search rules, feeding_next mark (drop (t.loop-i.i + 3) t.args.bytes.now) (behind_mark t) t.loop-i.invariant.2 _ c.put_mark-progress.ensures)
 
 pub put_plain-progress-requires : goal.put_plain-progress-requires
 put_plain-progress-requires c = let l = c.loop-i.invariant.2 in

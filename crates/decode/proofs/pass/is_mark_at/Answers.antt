@@ -35,8 +35,8 @@ module _ (bytes : List ℕ) (i : ℕ) where
 other : (x b : ℕ) → (b ≡ x → ⊥) → eqb x b ≡ false
 other x b h = ne_eqb x b (λ e. h (sym e))
 
-eqb-sym : (x b : ℕ) → eqb x b ≡ eqb b x
-eqb-sym x b = ⊎_elim (λ e. e ∙ sym (eq-eqb b x (sym (eqb-true x b e)))) (λ e. e ∙ sym (ne_eqb b x (λ q. eqb-false x b e (sym q)))) (either (eqb x b))
+eqb_sym : (x b : ℕ) → eqb x b ≡ eqb b x
+eqb_sym x b = ⊎_elim (λ e. e ∙ sym (eq-eqb b x (sym (eqb-true x b e)))) (λ e. e ∙ sym (ne_eqb b x (λ q. eqb-false x b e (sym q)))) (either (eqb x b))
 
 pub returns-then-bytes-i-lt3 : goal.returns-then-bytes-i-lt3
 returns-then-bytes-i-lt3 c = let a = c.args in sym (few a.bytes.now a.i c.if-bytes-i-lt3.true)
@@ -56,4 +56,4 @@ returns c =
     let a = c.args in
     sym (beside a.bytes.now a.i (omega (arith, c.if-bytes-i-lt3.false))
     ∙ rw (eq-eqb 0xE2 (get_or a.bytes.now a.i 0) (sym c.if-bytes-i.false), eq-eqb 0x96 (get_or a.bytes.now (a.i + 1) 0) (sym c.if-bytes-i-2.false), and-true (eqb 0x81 (get_or a.bytes.now (a.i + 2) 0)))
-    (eqb-sym 0x81 (get_or a.bytes.now (a.i + 2) 0)))
+    (eqb_sym 0x81 (get_or a.bytes.now (a.i + 2) 0)))

@@ -10,10 +10,10 @@ use Rattle.decode.proofs.words.shown_word.Goals as goal
 use Rattle.decode.proofs.words.shown_word.Goals.{After-word_at}
 
 -- the word, before its mark is spaced
-word-is : (w : After-word_at)
+word_is : (w : After-word_at)
     → (cond w.is_marked-marked.result (w.word_at.result % 256) 0x81 ≡ 0x81)
     × (bytes_in 8 (cond w.is_marked-marked.result (w.word_at.result - 97) w.word_at.result) ≡ eight_at w.args.bytes.now w.args.start w.args.len)
-word-is w =
+word_is w =
     spaced_word w.args.bytes.now w.args.start w.args.len w.requires w.word_at.result w.is_marked-marked.result w.is_marked-marked.ensures
     (w.word_at.ensures ∙ ap (λ (n : ℕ). take 8 (drop (w.args.start + n) w.args.bytes.now)) w.spared.ensures)
 
@@ -29,9 +29,9 @@ word_at-requires c =
     omega (arith, c.spared.ensures, few_spared c.is_marked-marked.result, c.requires)
 
 pub spaced-requires : goal.spaced-requires
-spaced-requires c = (word-is c).0
+spaced-requires c = (word_is c).0
 
 pub returns : goal.returns
 returns c =
     let w = (goal.at.returns c).After-word_at in
-    ap (bytes_in 8) c.spaced.ensures ∙ (word-is w).1
+    ap (bytes_in 8) c.spaced.ensures ∙ (word_is w).1

@@ -49,8 +49,8 @@ abbrev left_at : At-loop-id → List (Item Stretch)
 left_at a = let s = (goal.at.At-loop-id a).Start in taken_apart (parts_of s) (sections_left (tokens_of s) s.args.text.now a.loop-id.cursor)
 
 -- The result is no longer than any slice of words.
-out-fits : (s : Start) → (length s.args.out.now < 18446744073709551616) × (length s.args.out.now * 4 < 9223372036854775808)
-out-fits s = s.well_formed.1.1.1.1.1.1.1.1.1.1.1.1.1.1.1.1.1.1.1.1.1.1.1.1.1.1.1.1.1.0
+out_fits : (s : Start) → (length s.args.out.now < 18446744073709551616) × (length s.args.out.now * 4 < 9223372036854775808)
+out_fits s = s.well_formed.1.1.1.1.1.1.1.1.1.1.1.1.1.1.1.1.1.1.1.1.1.1.1.1.1.1.1.1.1.0
 
 pub loop-id-init : goal.loop-id-init
 loop-id-init c =
@@ -79,7 +79,7 @@ returns-in-Finished c =
 
 pub offset_bounds-out-written : goal.offset_bounds-out-written
 offset_bounds-out-written c =
-    omega (arith, (out-fits (goal.at.offset_bounds-out-written c).Start).1, c.loop-id.invariant.0.within, c.loop-id.invariant.0.long)
+    omega (arith, (out_fits (goal.at.offset_bounds-out-written c).Start).1, c.loop-id.invariant.0.within, c.loop-id.invariant.0.long)
 
 pub slice_bounds-put_id-count : goal.slice_bounds-put_id-count
 slice_bounds-put_id-count c = c.loop-id.invariant.0.within
@@ -94,7 +94,7 @@ pub overflow_add-written : goal.overflow_add-written
 overflow_add-written c =
     let a = (goal.at.overflow_add-written c).At-loop-id in
     let s = (goal.at.overflow_add-written c).Start in
-    omega (arith, (out-fits s).0, token-fit (tables_of s) (whole_of s) (left_at a) a.loop-id.invariant.0 c.in-Added.id c.put_id-more.ensures)
+    omega (arith, (out_fits s).0, token-fit (tables_of s) (whole_of s) (left_at a) a.loop-id.invariant.0 c.in-Added.id c.put_id-more.ensures)
 
 pub loop-id-smaller-in-Added : goal.loop-id-smaller-in-Added
 loop-id-smaller-in-Added c =
@@ -124,7 +124,7 @@ next_at p =
 
 pub offset_bounds-out-written-in-Plain : goal.offset_bounds-out-written-in-Plain
 offset_bounds-out-written-in-Plain c =
-    omega (arith, (out-fits (goal.at.offset_bounds-out-written-in-Plain c).Start).1, c.loop-id.invariant.0.within, c.loop-id.invariant.0.long)
+    omega (arith, (out_fits (goal.at.offset_bounds-out-written-in-Plain c).Start).1, c.loop-id.invariant.0.within, c.loop-id.invariant.0.long)
 
 pub slice_bounds-encode_normal_section-count : goal.slice_bounds-encode_normal_section-count
 slice_bounds-encode_normal_section-count c = c.loop-id.invariant.0.within
@@ -154,7 +154,7 @@ overflow_add-written-in-Plain c =
     let p = (goal.at.overflow_add-written-in-Plain c).After-part in
     let a = (goal.at.overflow_add-written-in-Plain c).At-loop-id in
     let s = (goal.at.overflow_add-written-in-Plain c).Start in
-    omega (arith, (out-fits s).0, parts-fit (tables_of s) (whole_of s) (left_at a) a.loop-id.invariant.0 (parts_of s (section_at p)) (put_at e))
+    omega (arith, (out_fits s).0, parts-fit (tables_of s) (whole_of s) (left_at a) a.loop-id.invariant.0 (parts_of s (section_at p)) (put_at e))
 
 pub loop-id-smaller : goal.loop-id-smaller
 loop-id-smaller c =

@@ -34,8 +34,8 @@ abbrev left_at : At-loop-id → List (Item Stretch)
 left_at a = let s = (goal.at.At-loop-id a).Start in parts_left (parts_of s) (tokens_of s) s.args.text.now a.loop-id.cursor
 
 -- The result is no longer than any slice of words.
-out-fits : (s : Start) → (length s.args.out.now < 18446744073709551616) × (length s.args.out.now * 4 < 9223372036854775808)
-out-fits s = s.well_formed.1.1.1.1.1.1.1.1.1.1.1.1.1.1.1.1.1.1.1.0
+out_fits : (s : Start) → (length s.args.out.now < 18446744073709551616) × (length s.args.out.now * 4 < 9223372036854775808)
+out_fits s = s.well_formed.1.1.1.1.1.1.1.1.1.1.1.1.1.1.1.1.1.1.1.0
 
 pub loop-id-init : goal.loop-id-init
 loop-id-init c =
@@ -53,7 +53,7 @@ returns-in-Finished c =
 
 pub offset_bounds-out-written : goal.offset_bounds-out-written
 offset_bounds-out-written c =
-    omega (arith, (out-fits (goal.at.offset_bounds-out-written c).Start).1, c.loop-id.invariant.within, c.loop-id.invariant.long)
+    omega (arith, (out_fits (goal.at.offset_bounds-out-written c).Start).1, c.loop-id.invariant.within, c.loop-id.invariant.long)
 
 pub slice_bounds-put_id-count : goal.slice_bounds-put_id-count
 slice_bounds-put_id-count c = c.loop-id.invariant.within
@@ -68,7 +68,7 @@ pub overflow_add-written : goal.overflow_add-written
 overflow_add-written c =
     let a = (goal.at.overflow_add-written c).At-loop-id in
     let s = (goal.at.overflow_add-written c).Start in
-    omega (arith, (out-fits s).0, token-fit (tables_of s) (whole_of s) (left_at a) a.loop-id.invariant c.in-Added.id c.put_id-more.ensures)
+    omega (arith, (out_fits s).0, token-fit (tables_of s) (whole_of s) (left_at a) a.loop-id.invariant c.in-Added.id c.put_id-more.ensures)
 
 pub loop-id-smaller-in-Added : goal.loop-id-smaller-in-Added
 loop-id-smaller-in-Added c =
@@ -83,7 +83,7 @@ loop-id-preserved-in-Added c =
 
 pub offset_bounds-out-written-in-Plain : goal.offset_bounds-out-written-in-Plain
 offset_bounds-out-written-in-Plain c =
-    omega (arith, (out-fits (goal.at.offset_bounds-out-written-in-Plain c).Start).1, c.loop-id.invariant.within, c.loop-id.invariant.long)
+    omega (arith, (out_fits (goal.at.offset_bounds-out-written-in-Plain c).Start).1, c.loop-id.invariant.within, c.loop-id.invariant.long)
 
 pub slice_bounds-encode_section-count : goal.slice_bounds-encode_section-count
 slice_bounds-encode_section-count c = c.loop-id.invariant.within
@@ -105,7 +105,7 @@ overflow_add-written-in-Plain c =
     let a = (goal.at.overflow_add-written-in-Plain c).At-loop-id in
     let s = (goal.at.overflow_add-written-in-Plain c).Start in
     omega
-    (arith, (out-fits s).0, parts-fit (tables_of s) (whole_of s) (left_at a) a.loop-id.invariant (section_at n) (c.encode_section-more.ensures ∙ ap (λ (l : List (Item Stretch)). parts_writer (tables_of s) l (take (length a.loop-id.out - a.loop-id.written) (drop a.loop-id.written a.loop-id.out))) (raw_section s.args.prepend s.args.continuation s.args.text.now n.in-Plain.start n.in-Plain.stop n.in-Plain.opening c.part-section.ensures)))
+    (arith, (out_fits s).0, parts-fit (tables_of s) (whole_of s) (left_at a) a.loop-id.invariant (section_at n) (c.encode_section-more.ensures ∙ ap (λ (l : List (Item Stretch)). parts_writer (tables_of s) l (take (length a.loop-id.out - a.loop-id.written) (drop a.loop-id.written a.loop-id.out))) (raw_section s.args.prepend s.args.continuation s.args.text.now n.in-Plain.start n.in-Plain.stop n.in-Plain.opening c.part-section.ensures)))
 
 pub loop-id-smaller : goal.loop-id-smaller
 loop-id-smaller c =

@@ -33,8 +33,8 @@ lone t =
     alone st.piece_bytes.now st.piece_offsets.now st.lookup.now st.first_bytes.now st.mark_id st.raw st.unit.now t.loop-i.i t.loop-i-test.true t.own_byte-id.ensures t.if-id.true
 
 -- The result is no longer than any slice of words.
-out-fits : (s : Start) → (length s.args.out.now < 18446744073709551616) × (length s.args.out.now * 4 < 9223372036854775808)
-out-fits s = s.well_formed.1.1.1.1.1.1.1.1.1.0
+out_fits : (s : Start) → (length s.args.out.now < 18446744073709551616) × (length s.args.out.now * 4 < 9223372036854775808)
+out_fits s = s.well_formed.1.1.1.1.1.1.1.1.1.0
 
 pub loop-i-init : goal.loop-i-init
 loop-i-init c = (search rules, search rules, onward_start _ _ _ _ _ _)
@@ -42,12 +42,12 @@ loop-i-init c = (search rules, search rules, onward_start _ _ _ _ _ _)
 pub offset_bounds-out-count : goal.offset_bounds-out-count
 offset_bounds-out-count c =
     let a = (goal.at.offset_bounds-out-count c).At-loop-i in
-    omega (arith, (out-fits (goal.at.offset_bounds-out-count c).Start).1, (walked a).laying.count.within)
+    omega (arith, (out_fits (goal.at.offset_bounds-out-count c).Start).1, (walked a).laying.count.within)
 
 pub overflow_add-count : goal.overflow_add-count
 overflow_add-count c =
     let a = (goal.at.overflow_add-count c).At-loop-i in
-    omega (arith, (out-fits (goal.at.overflow_add-count c).Start).1, (walked a).laying.count.within)
+    omega (arith, (out_fits (goal.at.overflow_add-count c).Start).1, (walked a).laying.count.within)
 
 pub loop-i-preserved-then-count-out : goal.loop-i-preserved-then-count-out
 loop-i-preserved-then-count-out c =
@@ -66,7 +66,7 @@ slice_bounds-spell_as-end c = (here c).ends
 pub offset_bounds-out-count-else-id : goal.offset_bounds-out-count-else-id
 offset_bounds-out-count-else-id c =
     let a = (goal.at.offset_bounds-out-count-else-id c).At-loop-i in
-    omega (arith, (out-fits (goal.at.offset_bounds-out-count-else-id c).Start).1, (walked a).laying.count.within)
+    omega (arith, (out_fits (goal.at.offset_bounds-out-count-else-id c).Start).1, (walked a).laying.count.within)
 
 pub slice_bounds-spell_as-count-else-id : goal.slice_bounds-spell_as-count-else-id
 slice_bounds-spell_as-count-else-id c =
@@ -85,7 +85,7 @@ overflow_add-count-else-id c =
     let char = as_mark st.raw (take (a.loop-i.i + c.char_step.result - a.loop-i.i) (drop a.loop-i.i st.unit.now)) in
     let g = given (own_found st.piece_bytes.now st.piece_offsets.now st.lookup.now st.first_bytes.now st.mark_id) st.fallback.now char (take (length a.loop-i.out - a.loop-i.count) (drop a.loop-i.count a.loop-i.out)) c.spell_as-given.ensures in
     let w = walked a in
-    omega (arith, (out-fits (goal.at.overflow_add-count-else-id c).Start).0, g.count, length-take (length a.loop-i.out - a.loop-i.count) (drop a.loop-i.count a.loop-i.out), w.laying.count.within, w.laying.long)
+    omega (arith, (out_fits (goal.at.overflow_add-count-else-id c).Start).0, g.count, length-take (length a.loop-i.out - a.loop-i.count) (drop a.loop-i.count a.loop-i.out), w.laying.count.within, w.laying.long)
 
 pub overflow_add-drops : goal.overflow_add-drops
 overflow_add-drops c =

@@ -23,8 +23,8 @@ ordered : (e : Else-not-lookup_ascends) → lookup_ascends (pieces (goal.at.Else
 ordered e = sym e.lookup_ascends.ensures ∙ e.if-not-lookup_ascends.false
 
 -- a flag that two numbers are equal, and what follows if they are
-if-equal : (a b : ℕ) (missing : Bool) → (a ≡ b → missing ≡ false) → (eqb a b && missing) ≡ false
-if-equal a b missing f = go (eqb a b) refl
+if_equal : (a b : ℕ) (missing : Bool) → (a ≡ b → missing ≡ false) → (eqb a b && missing) ≡ false
+if_equal a b missing f = go (eqb a b) refl
   where
     go : (t : Bool) → eqb a b ≡ t → (eqb a b && missing) ≡ false
     go true e = rw e (f (eqb-true a b e))
@@ -47,7 +47,7 @@ returns-then-not-lookup_ascends c =
 pub piece_missing-requires : goal.piece_missing-requires
 piece_missing-requires c =
     let s = (goal.at.piece_missing-requires c).Start in
-    record { ascending = ordered (goal.at.piece_missing-requires c).Else-not-lookup_ascends; long_listed = if-equal _ _ _ (λ e. none_missing (pieces s) s.args.lookup.now (named (goal.at.piece_missing-requires c).Else-names_no_piece) (ordered (goal.at.piece_missing-requires c).Else-not-lookup_ascends) (sym c.long_pieces-pieces.ensures ∙ e ∙ c.long_entries-entries.ensures)) }
+    record { ascending = ordered (goal.at.piece_missing-requires c).Else-not-lookup_ascends; long_listed = if_equal _ _ _ (λ e. none_missing (pieces s) s.args.lookup.now (named (goal.at.piece_missing-requires c).Else-names_no_piece) (ordered (goal.at.piece_missing-requires c).Else-not-lookup_ascends) (sym c.long_pieces-pieces.ensures ∙ e ∙ c.long_entries-entries.ensures)) }
 
 pub returns : goal.returns
 unfolding bad_lookup

@@ -58,8 +58,8 @@ module _ (c : After-fill_index) where
       ap (λ (n : ℕ). eqb n 0) (c.string_count-second_empty.ensures ∙ sym (length-strings c.args.second_bytes.now c.args.second_offsets.now))
       ∙ sym (empty_by_length (second (goal.at.After-fill_index c).Start))
 
-  path-is : c.raw_path-path.result ≡ raw_path_by c.word_split-split.result.kind (is_empty (second (goal.at.After-fill_index c).Start)) c.args.step_bytes.now (take c.args.step_count c.args.steps) c.args.metaspace
-  path-is =
+  path_is : c.raw_path-path.result ≡ raw_path_by c.word_split-split.result.kind (is_empty (second (goal.at.After-fill_index c).Start)) c.args.step_bytes.now (take c.args.step_count c.args.steps) c.args.metaspace
+  path_is =
       c.raw_path-path.ensures
       ∙ ap
       (λ (empty : Bool). raw_path_by c.word_split-split.result.kind empty c.args.step_bytes.now (take c.args.step_count c.args.steps) c.args.metaspace)
@@ -69,7 +69,7 @@ module _ (c : After-fill_index) where
   row_is =
       let s = (goal.at.After-fill_index c).Start in
       index_derived (pieces s) s.args.lookup.now s.args.left.now s.args.right.now s.args.rank.now (first s) (second s) s.args.step_bytes.now (take s.args.step_count s.args.steps) s.args.metaspace c.word_split-split.result.kind c.word_split-split.result.count c.word_split-split.new.noted c.word_split-split.ensures
-      c.raw_path-path.result c.kind_number.result c.raw_path_number.result path-is c.kind_number.ensures c.raw_path_number.ensures
+      c.raw_path-path.result c.kind_number.result c.raw_path_number.result path_is c.kind_number.ensures c.raw_path_number.ensures
 
 pub overflow_cast-split : goal.overflow_cast-split
 overflow_cast-split c = omega (arith, few (goal.at.overflow_cast-split c).After-word_split-split)

@@ -35,15 +35,15 @@ room : (s : Start) → 168519 ≤ length s.args.words.now
 room s = s.requires.first_tokens_at_in_bounds
 
 -- the buffer after each call is as long as it was
-long-1 : (c : After-copy_crossings) → length c.copy_crossings.new.words ≡ length c.args.words.now
-long-1 c =
+long_1 : (c : After-copy_crossings) → length c.copy_crossings.new.words ≡ length c.args.words.now
+long_1 c =
     let s = (goal.at.After-copy_crossings c).Start in
     crossed-long s.args.kind s.args.raw_path s.args.count s.args.noted.now (pieces s) s.args.lookup.now s.args.left.now s.args.right.now s.args.rank.now s.requires.noted_len s.args.words.now (room s)
     c.copy_crossings.new.words c.copy_crossings.ensures
 
 module _ (c : After-fill_piece_index) where
-  long-2 : length c.fill_piece_index.new.words ≡ length c.args.words.now
-  long-2 =
+  long_2 : length c.fill_piece_index.new.words ≡ length c.args.words.now
+  long_2 =
       let s = (goal.at.After-fill_piece_index c).Start in
       started_long s.args.kind s.args.raw_path s.args.count s.args.noted.now (pieces s) s.args.lookup.now s.args.left.now s.args.right.now s.args.rank.now s.requires.noted_len s.args.words.now (room s)
       c.copy_crossings.new.words c.copy_crossings.ensures c.key_id-mark.result c.bucket_shift-shift.result (mark-is (goal.at.After-fill_piece_index c).After-key_id-mark) (shift_is (goal.at.After-fill_piece_index c).After-key_id-mark)
@@ -53,8 +53,8 @@ module _ (c : After-fill_buckets) where
   abbrev bucketed : List ℕ
   bucketed = c.fill_buckets.new.words
 
-  long-3 : length bucketed ≡ length c.args.words.now
-  long-3 =
+  long_3 : length bucketed ≡ length c.args.words.now
+  long_3 =
       let s = (goal.at.After-fill_buckets c).Start in
       bucketed_long s.args.kind s.args.raw_path s.args.count s.args.noted.now (pieces s) s.args.lookup.now s.args.left.now s.args.right.now s.args.rank.now s.requires.noted_len s.args.words.now (room s)
       c.copy_crossings.new.words c.copy_crossings.ensures c.key_id-mark.result c.bucket_shift-shift.result (mark-is (goal.at.After-fill_buckets c).After-key_id-mark) (shift_is (goal.at.After-fill_buckets c).After-key_id-mark)
@@ -68,10 +68,10 @@ module _ (c : After-fill_pairs) where
   last-is : last ≡ take 4679 (bucketed (goal.at.After-fill_pairs c).After-fill_buckets) ++ pair_tables c.args.left.now c.args.right.now c.args.rank.now ++ drop 168519 (bucketed (goal.at.After-fill_pairs c).After-fill_buckets)
   last-is =
       lent_back 4679 163840 168519 (bucketed (goal.at.After-fill_pairs c).After-fill_buckets) c.fill_pairs.new.words
-      (λ (n : ℕ). pair_tables c.args.left.now c.args.right.now c.args.rank.now) refl (omega (arith, long-3 (goal.at.After-fill_pairs c).After-fill_buckets, room (goal.at.After-fill_pairs c).Start)) c.fill_pairs.ensures
+      (λ (n : ℕ). pair_tables c.args.left.now c.args.right.now c.args.rank.now) refl (omega (arith, long_3 (goal.at.After-fill_pairs c).After-fill_buckets, room (goal.at.After-fill_pairs c).Start)) c.fill_pairs.ensures
 
-  long-4 : length last ≡ length c.args.words.now
-  long-4 =
+  long_4 : length last ≡ length c.args.words.now
+  long_4 =
       let s = (goal.at.After-fill_pairs c).Start in
       last-long s.args.kind s.args.raw_path s.args.count s.args.noted.now (pieces s) s.args.lookup.now s.args.left.now s.args.right.now s.args.rank.now s.requires.noted_len s.args.words.now (room s)
       c.copy_crossings.new.words c.copy_crossings.ensures c.key_id-mark.result c.bucket_shift-shift.result (mark-is (goal.at.After-fill_pairs c).After-key_id-mark) (shift_is (goal.at.After-fill_pairs c).After-key_id-mark)
@@ -99,32 +99,32 @@ pub copy_crossings-requires : goal.copy_crossings-requires
 copy_crossings-requires c = rw (length-set, length-set, length-set) (omega (arith, room (goal.at.copy_crossings-requires c).Start, c.requires.noted_len))
 
 pub bounds-words-67 : goal.bounds-words-67
-bounds-words-67 c = omega (arith, long-1 (goal.at.bounds-words-67 c).After-copy_crossings, room (goal.at.bounds-words-67 c).Start)
+bounds-words-67 c = omega (arith, long_1 (goal.at.bounds-words-67 c).After-copy_crossings, room (goal.at.bounds-words-67 c).Start)
 
 pub bounds-words-68 : goal.bounds-words-68
-bounds-words-68 c = rw length-set (omega (arith, long-1 (goal.at.bounds-words-68 c).After-copy_crossings, room (goal.at.bounds-words-68 c).Start))
+bounds-words-68 c = rw length-set (omega (arith, long_1 (goal.at.bounds-words-68 c).After-copy_crossings, room (goal.at.bounds-words-68 c).Start))
 
 pub fill_piece_index-requires : goal.fill_piece_index-requires
 fill_piece_index-requires c = let s = (goal.at.fill_piece_index-requires c).Start in
-    record { ascending = s.requires.ascending; lookup_len_bound = s.requires.lookup_len_bound; buckets_at_in_bounds = rw (length-set, length-set) (omega (arith, long-1 (goal.at.fill_piece_index-requires c).After-copy_crossings, room s)) }
+    record { ascending = s.requires.ascending; lookup_len_bound = s.requires.lookup_len_bound; buckets_at_in_bounds = rw (length-set, length-set) (omega (arith, long_1 (goal.at.fill_piece_index-requires c).After-copy_crossings, room s)) }
 
 pub fill_buckets-requires : goal.fill_buckets-requires
 fill_buckets-requires c = let s = (goal.at.fill_buckets-requires c).Start in
-    record { left_len_bound = omega (arith, s.requires.left_len_bound); buckets_at_in_bounds = omega (arith, long-2 (goal.at.fill_buckets-requires c).After-fill_piece_index, room s); shift_bound = c.bucket_shift-shift.ensures.1 }
+    record { left_len_bound = omega (arith, s.requires.left_len_bound); buckets_at_in_bounds = omega (arith, long_2 (goal.at.fill_buckets-requires c).After-fill_piece_index, room s); shift_bound = c.bucket_shift-shift.ensures.1 }
 
 pub slice_bounds-fill_pairs-start : goal.slice_bounds-fill_pairs-start
 slice_bounds-fill_pairs-start c = omega arith
 
 pub slice_bounds-fill_pairs-end : goal.slice_bounds-fill_pairs-end
-slice_bounds-fill_pairs-end c = let b = (goal.at.slice_bounds-fill_pairs-end c).After-fill_buckets in omega (arith, long-3 b, room (goal.at.slice_bounds-fill_pairs-end c).Start)
+slice_bounds-fill_pairs-end c = let b = (goal.at.slice_bounds-fill_pairs-end c).After-fill_buckets in omega (arith, long_3 b, room (goal.at.slice_bounds-fill_pairs-end c).Start)
 
 pub fill_pairs-requires : goal.fill_pairs-requires
 fill_pairs-requires c = let b = (goal.at.fill_pairs-requires c).After-fill_buckets in
     let s = (goal.at.fill_pairs-requires c).Start in
-    record { left_len_bound = s.requires.left_len_bound; words_len = length-take-le 163840 (drop 4679 (bucketed b)) (omega (arith, length-drop 4679 (bucketed b), long-3 b, room s)) }
+    record { left_len_bound = s.requires.left_len_bound; words_len = length-take-le 163840 (drop 4679 (bucketed b)) (omega (arith, length-drop 4679 (bucketed b), long_3 b, room s)) }
 
 pub shape_of-words : goal.shape_of-words
-shape_of-words c = long-4 (goal.at.shape_of-words c).After-fill_pairs
+shape_of-words c = long_4 (goal.at.shape_of-words c).After-fill_pairs
 
 pub returns : goal.returns
 returns c = whole (goal.at.returns c).After-fill_pairs

@@ -40,8 +40,8 @@ module _ (c : After-first_bytes-2) where
   two_is : two ≡ take 168775 (one (goal.at.After-first_bytes-2 c).After-first_bytes) ++ beginnings (second (goal.at.After-first_bytes-2 c).After-first_bytes) 256 ++ drop 169031 (one (goal.at.After-first_bytes-2 c).After-first_bytes)
   two_is = lent_back 168775 256 169031 (one (goal.at.After-first_bytes-2 c).After-first_bytes) c.first_bytes-2.new.begins (beginnings (second (goal.at.After-first_bytes-2 c).After-first_bytes)) refl (omega (arith, one_same (goal.at.After-first_bytes-2 c).After-first_bytes, c.requires)) c.first_bytes-2.ensures
 
-  two-same : length two ≡ length (words (goal.at.After-first_bytes-2 c).After-first_bytes)
-  two-same = two_long (first (goal.at.After-first_bytes-2 c).After-first_bytes) (second (goal.at.After-first_bytes-2 c).After-first_bytes) (words (goal.at.After-first_bytes-2 c).After-first_bytes) c.requires (one (goal.at.After-first_bytes-2 c).After-first_bytes) (one-is (goal.at.After-first_bytes-2 c).After-first_bytes) two two_is
+  two_same : length two ≡ length (words (goal.at.After-first_bytes-2 c).After-first_bytes)
+  two_same = two_long (first (goal.at.After-first_bytes-2 c).After-first_bytes) (second (goal.at.After-first_bytes-2 c).After-first_bytes) (words (goal.at.After-first_bytes-2 c).After-first_bytes) c.requires (one (goal.at.After-first_bytes-2 c).After-first_bytes) (one-is (goal.at.After-first_bytes-2 c).After-first_bytes) two two_is
 
   abbrev longest : ℕ
   longest = c.longest_content-longest.result
@@ -50,7 +50,7 @@ module _ (c : After-first_bytes-2) where
   whole = tokens-filled (first (goal.at.After-first_bytes-2 c).After-first_bytes) (second (goal.at.After-first_bytes-2 c).After-first_bytes) (words (goal.at.After-first_bytes-2 c).After-first_bytes) c.requires (one (goal.at.After-first_bytes-2 c).After-first_bytes) (one-is (goal.at.After-first_bytes-2 c).After-first_bytes) two two_is longest c.longest_content-longest.ensures
 
 pub shape_of-words : goal.shape_of-words
-shape_of-words c = length-set (two (goal.at.shape_of-words c).After-first_bytes-2) 169031 (longest (goal.at.shape_of-words c).After-first_bytes-2) ∙ two-same (goal.at.shape_of-words c).After-first_bytes-2
+shape_of-words c = length-set (two (goal.at.shape_of-words c).After-first_bytes-2) 169031 (longest (goal.at.shape_of-words c).After-first_bytes-2) ∙ two_same (goal.at.shape_of-words c).After-first_bytes-2
 
 pub returns : goal.returns
 returns c = whole (goal.at.returns c).After-first_bytes-2

@@ -30,15 +30,15 @@ module _ (c : After-fill_first) where
   first-long : length first ≡ 131072
   first-long = ap length c.fill_first.ensures ∙ length_pairs c.args.left.now c.args.right.now c.args.rank.now
 
-  buffer-long : length buffer ≡ 163840
-  buffer-long = omega (arith, length-append first (drop 131072 c.args.words.now), first-long, length-drop 131072 c.args.words.now, c.requires.words_len)
+  buffer_long : length buffer ≡ 163840
+  buffer_long = omega (arith, length-append first (drop 131072 c.args.words.now), first-long, length-drop 131072 c.args.words.now, c.requires.words_len)
 
   front-is : take 131072 buffer ≡ words
   front-is = take_at first (drop 131072 c.args.words.now) 131072 first-long ∙ c.fill_first.ensures
 
 pub fill_second-requires : goal.fill_second-requires
 fill_second-requires c = let f = (goal.at.fill_second-requires c).After-fill_first in
-    record { left_len_bound = f.requires.left_len_bound; words_len = buffer-long f }
+    record { left_len_bound = f.requires.left_len_bound; words_len = buffer_long f }
 
 pub returns : goal.returns
 unfolding pair_tables

@@ -17,8 +17,8 @@ module _ (c : After-number_at-2) where
   abbrev named : ℕ
   named = c.args.word % 2147483648
 
-  old-rank : c.number_at-2.result ≡ get_or c.args.rank.now (named - 1) 0
-  old-rank = c.number_at-2.ensures ∙ ap (λ (i : ℕ). get_or c.args.rank.now i 0) c.wide.ensures.0
+  old_rank : c.number_at-2.result ≡ get_or c.args.rank.now (named - 1) 0
+  old_rank = c.number_at-2.ensures ∙ ap (λ (i : ℕ). get_or c.args.rank.now i 0) c.wide.ensures.0
 
   some : named ≡ 0 → ⊥
   some = c.if-named-eq0.false
@@ -27,10 +27,10 @@ pub returns-then-number_at : goal.returns-then-number_at
 returns-then-number_at c =
     let n = (goal.at.returns-then-number_at c).After-number_at-2 in
     let s = n.args in
-    with_lower s.rank.now s.word (named n) s.i refl (some n) (omega (arith, c.if-number_at.true, old-rank n, n.number_at.ensures))
+    with_lower s.rank.now s.word (named n) s.i refl (some n) (omega (arith, c.if-number_at.true, old_rank n, n.number_at.ensures))
 
 pub returns : goal.returns
 returns c =
     let n = (goal.at.returns c).After-number_at-2 in
     let s = n.args in
-    with_kept s.rank.now s.word (named n) s.i refl (some n) (omega (arith, c.if-number_at.false, old-rank n, n.number_at.ensures))
+    with_kept s.rank.now s.word (named n) s.i refl (some n) (omega (arith, c.if-number_at.false, old_rank n, n.number_at.ensures))

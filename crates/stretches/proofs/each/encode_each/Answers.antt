@@ -37,8 +37,8 @@ abbrev chars_of : After-next_unit-next → List (List ℕ)
 chars_of f = marked_chars false f.args.raw (take (f.next_unit-next.result - f.loop-kind.from) (drop f.loop-kind.from f.args.section.now))
 
 -- The result is no longer than any slice of words.
-out-fits : (s : Start) → (length s.args.out.now < 18446744073709551616) × (length s.args.out.now * 4 < 9223372036854775808)
-out-fits s = s.well_formed.1.1.1.1.1.1.1.1.1.1.1.1.1.1.1.1.1.1.1.0
+out_fits : (s : Start) → (length s.args.out.now < 18446744073709551616) × (length s.args.out.now * 4 < 9223372036854775808)
+out_fits s = s.well_formed.1.1.1.1.1.1.1.1.1.1.1.1.1.1.1.1.1.1.1.0
 
 pub loop-kind-init : goal.loop-kind-init
 loop-kind-init c = (c.requires, going_start _ _)
@@ -54,7 +54,7 @@ slice_bounds-encode_unit-end c = (here c).ends
 
 pub offset_bounds-out-written : goal.offset_bounds-out-written
 offset_bounds-out-written c =
-    omega (arith, (out-fits (goal.at.offset_bounds-out-written c).Start).1, c.loop-kind.invariant.1.within, c.loop-kind.invariant.1.long)
+    omega (arith, (out_fits (goal.at.offset_bounds-out-written c).Start).1, c.loop-kind.invariant.1.within, c.loop-kind.invariant.1.long)
 
 pub slice_bounds-encode_unit-count-in-loop-kind : goal.slice_bounds-encode_unit-count-in-loop-kind
 slice_bounds-encode_unit-count-in-loop-kind c = c.loop-kind.invariant.1.within
@@ -70,7 +70,7 @@ overflow_add-written c =
     let f = (goal.at.overflow_add-written c).After-next_unit-next in
     let s = (goal.at.overflow_add-written c).Start in
     omega
-    (arith, (out-fits s).0, going_fits f.loop-kind.invariant.1 (unit_writer (row_of s) (own_of s) s.args.fallback.now (chars_of f)) (keeps_unit (row_of s) (own_of s) s.args.fallback.now (chars_of f)) c.encode_unit-more.ensures)
+    (arith, (out_fits s).0, going_fits f.loop-kind.invariant.1 (unit_writer (row_of s) (own_of s) s.args.fallback.now (chars_of f)) (keeps_unit (row_of s) (own_of s) s.args.fallback.now (chars_of f)) c.encode_unit-more.ensures)
 
 pub loop-kind-smaller : goal.loop-kind-smaller
 loop-kind-smaller c =

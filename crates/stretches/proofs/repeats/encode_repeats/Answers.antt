@@ -59,19 +59,19 @@ kept : (f : After-slot_of-slot) → KeptAt f
 kept f = f.loop-out.invariant.2.each f.slot_of-slot.result _ f.slot_of-slot.ensures
 
 -- The writers from here on, where others follow and where none do.
-writers-more : (f : After-next_unit-next) → f.next_unit-next.result < length f.args.section.now
+writers_more : (f : After-next_unit-next) → f.next_unit-next.result < length f.args.section.now
     → let s = (goal.at.After-next_unit-next f).Start in
     unit_writers (row_of s) (own_of s) s.args.fallback.now false s.args.raw (units_from (cuts_of s) s.args.section.now f.loop-out.from)
     ≡ writer_of f ∷ unit_writers (row_of s) (own_of s) s.args.fallback.now false s.args.raw (units_from (cuts_of s) s.args.section.now f.next_unit-next.result)
-writers-more f h =
+writers_more f h =
     let s = (goal.at.After-next_unit-next f).Start in
     first_writer (row_of s) (own_of s) s.args.fallback.now false s.args.raw s.args.section.now f.loop-out.from f.next_unit-next.result _ _ ((here f).more h)
 
-writers-last : (f : After-next_unit-next) → length f.args.section.now ≤ f.next_unit-next.result
+writers_last : (f : After-next_unit-next) → length f.args.section.now ≤ f.next_unit-next.result
     → let s = (goal.at.After-next_unit-next f).Start in
     unit_writers (row_of s) (own_of s) s.args.fallback.now false s.args.raw (units_from (cuts_of s) s.args.section.now f.loop-out.from) ≡ writer_of f ∷ []
 unfolding unit_writers with_virtual_mark
-writers-last f h =
+writers_last f h =
     let s = (goal.at.After-next_unit-next f).Start in
     first_writer (row_of s) (own_of s) s.args.fallback.now false s.args.raw s.args.section.now f.loop-out.from f.next_unit-next.result _ [] ((here f).last h)
 
@@ -85,8 +85,8 @@ narrow : (f : After-next_unit-next) → (length f.args.section.now < 4294967296)
 narrow f = (f.requires.section_len_bound.0, omega (arith, f.requires.section_len_bound.1, f.loop-out.invariant.1.long))
 
 -- The result is no longer than any slice of words.
-out-fits : (s : Start) → (length s.args.out.now < 18446744073709551616) × (length s.args.out.now * 4 < 9223372036854775808)
-out-fits s = s.well_formed.1.1.1.1.1.1.1.1.1.1.1.1.1.1.1.1.1.1.1.0
+out_fits : (s : Start) → (length s.args.out.now < 18446744073709551616) × (length s.args.out.now * 4 < 9223372036854775808)
+out_fits s = s.well_formed.1.1.1.1.1.1.1.1.1.1.1.1.1.1.1.1.1.1.1.0
 
 pub loop-out-init : goal.loop-out-init
 loop-out-init c = (c.requires.start_in_bounds, going_start _ _, table-start c.args.out.now)
@@ -119,19 +119,19 @@ pub overflow_add-written : goal.overflow_add-written
 overflow_add-written c =
     let t = (goal.at.overflow_add-written c).Then-is_repeat in
     let a = repeats t in
-    omega (arith, (out-fits (goal.at.overflow_add-written c).Start).0, a.room, a.few, t.loop-out.invariant.1.long)
+    omega (arith, (out_fits (goal.at.overflow_add-written c).Start).0, a.room, a.few, t.loop-out.invariant.1.long)
 
 pub returns-then-section-next : goal.returns-then-section-next
 returns-then-section-next c =
     let t = (goal.at.returns-then-section-next c).Then-is_repeat in
     let q = (goal.at.returns-then-section-next c).After-slot_of-slot in
-    going_ended (going_repeated q.loop-out.invariant.1 (kept q) (repeats t) (writers-last (goal.at.returns-then-section-next c).After-next_unit-next c.if-section-next.true) c.repeat_ids.ensures)
+    going_ended (going_repeated q.loop-out.invariant.1 (kept q) (repeats t) (writers_last (goal.at.returns-then-section-next c).After-next_unit-next c.if-section-next.true) c.repeat_ids.ensures)
 
 pub shape_of-out-then-section-next : goal.shape_of-out-then-section-next
 shape_of-out-then-section-next c =
     let t = (goal.at.shape_of-out-then-section-next c).Then-is_repeat in
     let q = (goal.at.shape_of-out-then-section-next c).After-slot_of-slot in
-    (going_repeated q.loop-out.invariant.1 (kept q) (repeats t) (writers-last (goal.at.shape_of-out-then-section-next c).After-next_unit-next c.if-section-next.true) c.repeat_ids.ensures).long
+    (going_repeated q.loop-out.invariant.1 (kept q) (repeats t) (writers_last (goal.at.shape_of-out-then-section-next c).After-next_unit-next c.if-section-next.true) c.repeat_ids.ensures).long
 
 pub loop-out-smaller-then-is_repeat : goal.loop-out-smaller-then-is_repeat
 loop-out-smaller-then-is_repeat c =
@@ -144,7 +144,7 @@ loop-out-preserved-then-is_repeat c =
     let q = (goal.at.loop-out-preserved-then-is_repeat c).After-slot_of-slot in
     let f = (goal.at.loop-out-preserved-then-is_repeat c).After-next_unit-next in
     let l = f.loop-out in
-    let g = going_repeated l.invariant.1 (kept q) (repeats t) (writers-more f c.if-section-next.false) c.repeat_ids.ensures in
+    let g = going_repeated l.invariant.1 (kept q) (repeats t) (writers_more f c.if-section-next.false) c.repeat_ids.ensures in
     ((here f).ends, g, table_repeated (old_of q) l.invariant.2 l.invariant.1 g c.repeat_ids.ensures)
 
 pub slice_bounds-encode_started-count : goal.slice_bounds-encode_started-count
@@ -158,7 +158,7 @@ slice_bounds-encode_started-end c = (here (goal.at.slice_bounds-encode_started-e
 
 pub offset_bounds-out-written : goal.offset_bounds-out-written
 offset_bounds-out-written c =
-    omega (arith, (out-fits (goal.at.offset_bounds-out-written c).Start).1, c.loop-out.invariant.1.within, c.loop-out.invariant.1.long)
+    omega (arith, (out_fits (goal.at.offset_bounds-out-written c).Start).1, c.loop-out.invariant.1.within, c.loop-out.invariant.1.long)
 
 pub slice_bounds-encode_started-count-else-is_repeat : goal.slice_bounds-encode_started-count-else-is_repeat
 slice_bounds-encode_started-count-else-is_repeat c = c.loop-out.invariant.1.within
@@ -204,17 +204,17 @@ bounds-seen-slot-else-is_repeat c = c.slot_of-slot.ensures
 pub overflow_add-written-else-is_repeat : goal.overflow_add-written-else-is_repeat
 overflow_add-written-else-is_repeat c =
     let f = (goal.at.overflow_add-written-else-is_repeat c).After-next_unit-next in
-    omega (arith, (out-fits (goal.at.overflow_add-written-else-is_repeat c).Start).0, going_fits f.loop-out.invariant.1 (writer_of f) (keeps f) c.encode_started-one.ensures.0)
+    omega (arith, (out_fits (goal.at.overflow_add-written-else-is_repeat c).Start).0, going_fits f.loop-out.invariant.1 (writer_of f) (keeps f) c.encode_started-one.ensures.0)
 
 pub returns-then-section-next-2 : goal.returns-then-section-next-2
 returns-then-section-next-2 c =
     let f = (goal.at.returns-then-section-next-2 c).After-next_unit-next in
-    going_ended (going_next f.loop-out.invariant.1 (writer_of f) [] (writers-last f c.if-section-next-2.true) (keeps f) c.encode_started-one.ensures.0)
+    going_ended (going_next f.loop-out.invariant.1 (writer_of f) [] (writers_last f c.if-section-next-2.true) (keeps f) c.encode_started-one.ensures.0)
 
 pub shape_of-out-then-section-next-2 : goal.shape_of-out-then-section-next-2
 shape_of-out-then-section-next-2 c =
     let f = (goal.at.shape_of-out-then-section-next-2 c).After-next_unit-next in
-    (going_next f.loop-out.invariant.1 (writer_of f) [] (writers-last f c.if-section-next-2.true) (keeps f) c.encode_started-one.ensures.0).long
+    (going_next f.loop-out.invariant.1 (writer_of f) [] (writers_last f c.if-section-next-2.true) (keeps f) c.encode_started-one.ensures.0).long
 
 pub loop-out-smaller : goal.loop-out-smaller
 loop-out-smaller c =
@@ -227,7 +227,7 @@ loop-out-preserved c =
     let l = f.loop-out in
     let s = (goal.at.loop-out-preserved c).Start in
     let h = here f in
-    let g = going_next l.invariant.1 (writer_of f) (unit_writers (row_of s) (own_of s) s.args.fallback.now false s.args.raw (units_from (cuts_of s) s.args.section.now f.next_unit-next.result)) (writers-more f c.if-section-next-2.false) (keeps f) c.encode_started-one.ensures.0 in (
+    let g = going_next l.invariant.1 (writer_of f) (unit_writers (row_of s) (own_of s) s.args.fallback.now false s.args.raw (units_from (cuts_of s) s.args.section.now f.next_unit-next.result)) (writers_more f c.if-section-next-2.false) (keeps f) c.encode_started-one.ensures.0 in (
       h.ends,
       g,
       table-put c.slot_of-slot.result _

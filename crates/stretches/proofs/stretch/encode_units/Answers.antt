@@ -29,8 +29,8 @@ abbrev cuts_of : Start → ℕ → Bool
 cuts_of s = begins_unit s.args.kind (named_crossings (strings s.args.piece_bytes.now s.args.piece_offsets.now) s.args.noted.now s.args.count) (pair_noted s.args.adjacency.now) s.args.raw s.args.section.now
 
 -- The result is no longer than any slice of words.
-out-fits : (s : Start) → (length s.args.out.now < 18446744073709551616) × (length s.args.out.now * 4 < 9223372036854775808)
-out-fits s = s.well_formed.1.1.1.1.1.1.1.1.1.1.1.1.1.1.1.1.1.1.1.0
+out_fits : (s : Start) → (length s.args.out.now < 18446744073709551616) × (length s.args.out.now * 4 < 9223372036854775808)
+out_fits s = s.well_formed.1.1.1.1.1.1.1.1.1.1.1.1.1.1.1.1.1.1.1.0
 
 -- The first unit, and its writer.
 here : (f : After-next_unit-next) → NextUnit (cuts_of (goal.at.After-next_unit-next f).Start) f.args.section.now 0 f.next_unit-next.result
@@ -39,8 +39,8 @@ here f = let s = (goal.at.After-next_unit-next f).Start in next-unit (cuts_of s)
 abbrev first_of : After-next_unit-next → Writer
 first_of f = let s = (goal.at.After-next_unit-next f).Start in unit_writer (row_of s) (own_of s) s.args.fallback.now (marked_chars s.args.virtual_mark s.args.raw (take (f.next_unit-next.result - 0) (drop 0 s.args.section.now)))
 
-keeps-first : (f : After-next_unit-next) → Keeps (first_of f)
-keeps-first f = let s = (goal.at.After-next_unit-next f).Start in keeps_unit (row_of s) (own_of s) s.args.fallback.now _
+keeps_first : (f : After-next_unit-next) → Keeps (first_of f)
+keeps_first f = let s = (goal.at.After-next_unit-next f).Start in keeps_unit (row_of s) (own_of s) s.args.fallback.now _
 
 -- The buffer after the first call; what that wrote lies in it.
 abbrev first_left : After-encode_unit-written → List ℕ
@@ -50,8 +50,8 @@ inside : (w : After-encode_unit-written) → (w.encode_unit-written.result ≤ l
 inside w =
     let f = (goal.at.After-encode_unit-written w).After-next_unit-next in
     let out = f.args.out.now in
-    let long : length (first_left w) ≡ length out = ap (λ (d : Merged). length d.ids) w.encode_unit-written.ensures ∙ (keeps-first f).long out in
-    (omega (arith, ap (λ (d : Merged). d.count) w.encode_unit-written.ensures, (keeps-first f).inside out, long), long)
+    let long : length (first_left w) ≡ length out = ap (λ (d : Merged). length d.ids) w.encode_unit-written.ensures ∙ (keeps_first f).long out in
+    (omega (arith, ap (λ (d : Merged). d.count) w.encode_unit-written.ensures, (keeps_first f).inside out, long), long)
 
 pub slice_bounds-encode_unit-end : goal.slice_bounds-encode_unit-end
 slice_bounds-encode_unit-end c = (here c).ends
@@ -66,7 +66,7 @@ returns-then-section-next c =
     one_unit (row_of s) (own_of s) s.args.fallback.now s.args.raw s.args.virtual_mark (cuts_of s) s.args.section.now f.next_unit-next.result (here f) s.args.out.now c.encode_unit-written.ensures c.if-section-next.true
 
 pub offset_bounds-out-written : goal.offset_bounds-out-written
-offset_bounds-out-written c = let w = (goal.at.offset_bounds-out-written c).After-encode_unit-written in omega (arith, (out-fits (goal.at.offset_bounds-out-written c).Start).1, (inside w).0, (inside w).1)
+offset_bounds-out-written c = let w = (goal.at.offset_bounds-out-written c).After-encode_unit-written in omega (arith, (out_fits (goal.at.offset_bounds-out-written c).Start).1, (inside w).0, (inside w).1)
 
 pub slice_bounds-encode_rest-count : goal.slice_bounds-encode_rest-count
 slice_bounds-encode_rest-count c = (inside (goal.at.slice_bounds-encode_rest-count c).After-encode_unit-written).0
@@ -85,7 +85,7 @@ overflow_add-result c =
     let w = (goal.at.overflow_add-result c).After-encode_unit-written in
     let s = (goal.at.overflow_add-result c).Start in
     let tail = take (length (first_left w) - w.encode_unit-written.result) (drop w.encode_unit-written.result (first_left w)) in
-    omega (arith, (out-fits s).0, (inside w).0, (inside w).1, ap (λ (d : Merged). d.count) c.encode_rest-more.ensures, (keeps_units (row_of s) (own_of s) s.args.fallback.now s.args.raw (units_from (cuts_of s) s.args.section.now w.next_unit-next.result)).inside tail, length-take (length (first_left w) - w.encode_unit-written.result) (drop w.encode_unit-written.result (first_left w)))
+    omega (arith, (out_fits s).0, (inside w).0, (inside w).1, ap (λ (d : Merged). d.count) c.encode_rest-more.ensures, (keeps_units (row_of s) (own_of s) s.args.fallback.now s.args.raw (units_from (cuts_of s) s.args.section.now w.next_unit-next.result)).inside tail, length-take (length (first_left w) - w.encode_unit-written.result) (drop w.encode_unit-written.result (first_left w)))
 
 pub returns : goal.returns
 returns c =

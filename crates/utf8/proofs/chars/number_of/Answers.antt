@@ -17,11 +17,11 @@ two c = two_bytes c.args.s.now (sym c.requires ∙ c.if-w-eq2.true)
 three : (c : Then-w-eq3) → Bounds 0 ((0xE0, 0xEF) ∷ tail ∷ tail ∷ []) c.args.s.now
 three c = three_bytes c.args.s.now (sym c.requires ∙ c.if-w-eq3.true)
 
-is-four : (c : Else-w-eq3) → char_width c.args.s.now ≡ 4
-is-four c = omega (arith, char_width-le_four c.args.s.now)
+is_four : (c : Else-w-eq3) → char_width c.args.s.now ≡ 4
+is_four c = omega (arith, char_width-le_four c.args.s.now)
 
 four : (c : Else-w-eq3) → Bounds 0 ((0xF0, 0xF4) ∷ tail ∷ tail ∷ tail ∷ []) c.args.s.now
-four c = four_bytes c.args.s.now (is-four c)
+four c = four_bytes c.args.s.now (is_four c)
 
 pub returns-then-w-eq0 : goal.returns-then-w-eq0
 unfolding code_point
@@ -106,4 +106,4 @@ returns c =
     c.joined-4.ensures
     ∙ ap (λ (n : ℕ). n * 64 + (get_or s 3 0 - 0x80))
     (c.joined-3.ensures ∙ ap (λ (n : ℕ). n * 64 + (get_or s 2 0 - 0x80)) c.joined-2.ensures)
-    ∙ sym (ap (λ (w : ℕ). code_point (take w s)) (at.requires ∙ is-four at) ∙ code_point_four s (omega (arith, four at)))
+    ∙ sym (ap (λ (w : ℕ). code_point (take w s)) (at.requires ∙ is_four at) ∙ code_point_four s (omega (arith, four at)))
