@@ -30,7 +30,6 @@ cut_after-cut-requires c = record { step_nonzero = (c.requires.step_nonzero, (co
 
 pub returns-then-text-cut : goal.returns-then-text-cut
 returns-then-text-cut c = let t = (goal.at.returns-then-text-cut c).At-loop-kind in
-    let l = t.loop-kind in
     counting_done (over t) t.args.step t.requires.step_nonzero (counted t) c.cut_after-cut.ensures c.if-text-cut.true
 
 pub overflow_add-cuts : goal.overflow_add-cuts

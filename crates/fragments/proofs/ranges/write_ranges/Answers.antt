@@ -35,17 +35,14 @@ put_range-requires c = let t = (goal.at.put_range-requires c).At-loop-kind in
 
 pub overflow_add-written : goal.overflow_add-written
 overflow_add-written c = let t = (goal.at.overflow_add-written c).At-loop-kind in
-    let l = t.loop-kind in
     omega (arith, ranging_room (over t) t.args.step t.requires.step_nonzero.0 (ranged t), (ranged t).writing.long)
 
 pub shape_of-out-then-text-cut : goal.shape_of-out-then-text-cut
 shape_of-out-then-text-cut c = let t = (goal.at.shape_of-out-then-text-cut c).At-loop-kind in
-    let l = t.loop-kind in
     ranging_long (over t) t.args.step t.requires.step_nonzero.0 (ranged t) c.cut_after-cut.ensures c.put_range.ensures
 
 pub returns-then-text-cut : goal.returns-then-text-cut
 returns-then-text-cut c = let t = (goal.at.returns-then-text-cut c).At-loop-kind in
-    let l = t.loop-kind in
     record { value = ranging_count (over t) t.args.step t.requires.step_nonzero.0 (ranged t) c.cut_after-cut.ensures c.put_range.ensures c.if-text-cut.true; out_after = ranging_done (over t) t.args.step t.requires.step_nonzero.0 (ranged t) c.cut_after-cut.ensures c.put_range.ensures c.if-text-cut.true }
 
 pub loop-kind-smaller : goal.loop-kind-smaller
