@@ -3,7 +3,7 @@
 
     tools/rules.py
 
-A link [`name`](file) in docs/*.md names a definition or law that the file has, or a function `crate::module::name` with the file of its
+A link [`name`](file) in docs/*.md names a definition or law that the file has, or a function `crate::module::name`, or a method `crate::Type::name`, with the file of its
 proof: Answers.antt, where there is none Invariants.antt, and its source where Rattle proves it with no file. Every "rule 5.3" in the repository names a rule of docs/RULES.md. Prints what does
 not exist and exits with 1 if there is anything.
 """
@@ -28,6 +28,9 @@ def source_of(function):
     crate, *modules, name = function.split("::")
     folder = ROOT / "crates" / crate
     source = folder / "src" / ("/".join(modules) + ".rt" if modules else "lib.rt")
+    if modules and modules[-1][0].isupper():
+        method = re.compile(rf"^impl\b[^\n]*\b{modules[-1]}\b.*?^    (?:pub )?fn {name}\b", re.M | re.S)
+        source = next((file for file in sorted((folder / "src").rglob("*.rt")) if method.search(file.read_text())), source)
     proofs = [folder / "proofs" / "/".join(modules) / name / file for file in PROOFS]
     return source, name, next((proof for proof in proofs if proof.is_file()), source)
 

@@ -64,7 +64,7 @@ class Function:
         stop = closed(text, start)
         self.lent = re.findall(r"(\w+): &(?:'\w+ )?mut ", text[start:stop])
         answer = re.compile(r"\s*-> (.*?)\s+(?:(?:requires|ensures)(?: \w+)? )?\{", re.S).match(text, stop + 1)
-        self.fields = fields.get(answer[1], []) if answer else []
+        self.fields = fields.get(re.sub("<.*", "", answer[1]), []) if answer else []
         self.sought = (["result"] if answer else []) + self.lent
         self.ensures = []
         clause = CLAUSE.search(text, stop)
@@ -130,31 +130,41 @@ def settled_by(function, views):
             fields = [value[len("result."):] for value in of_result]
             parts = [settles(value, views) for value in values if value not in of_result]
             if (None, None) in parts:
-                return set(), "an equation on something else"
+                continue
             settled |= {part for part, _ in parts}
-            shown += fields
+            shown += [field.removesuffix(".now") for field in fields]
             if fields and sorted(shown) == sorted(function.fields):
                 settled.add("result")
             form = parts[0][1] if not whole and parts else "a field of the result" if not whole else "a record of the result and lent cells"
             forms.append("a record of the result by its fields and lent cells" if whole and fields else form)
         if found[1]:
             forms[-1] += " and a bound"
-    return settled, ", then ".join(forms) or "no contract"
+    return settled, ", then ".join(dict.fromkeys(forms)) or "an equation on something else"
+
+
+def fields_of_structs():
+    """The fields of each struct, those of a struct in it by their path."""
+    shapes = {
+        struct[1]: re.findall(r"^ +(?:pub )?(\w+): (?:&'\w+ )?(\w+)?", struct[2], re.M)
+        for crate in CRATES for source in (ROOT / "crates" / crate / "src").glob("**/*.rt")
+        for struct in re.finditer(r"^pub(?:\(crate\))? struct (\w+)(?:<[^>]*>)? \{\n(.*?)^\}", source.read_text(), re.M | re.S)
+    }
+
+    def paths(name):
+        return [f"{field}.{path}" if path else field for field, kind in shapes[name] for path in (paths(kind) if kind in shapes else [""])]
+
+    return {name: paths(name) for name in shapes}
 
 
 def functions():
-    found = {}
+    found, fields = {}, fields_of_structs()
     for crate in CRATES:
         sources = sorted((ROOT / "crates" / crate / "src").glob("**/*.rt"))
         texts = {source: source.read_text() for source in sources}
-        fields = {
-            struct[1]: re.findall(r"^ +(?:pub )?(\w+):", struct[2], re.M)
-            for text in texts.values() for struct in re.finditer(r"^pub struct (\w+) \{\n(.*?)^\}", text, re.M | re.S)
-        }
         for source, text in texts.items():
             module = [] if source.stem == "lib" else [source.stem]
             for match in FUNCTION.finditer(text):
-                owner = re.findall(r"^impl (\w+) \{|^\}", text[:match.start()], re.M)[-1:] if match[1] else []
+                owner = re.findall(r"^impl(?:<[^>]*>)? (\w+)(?:<[^>]*>)? \{|^\}", text[:match.start()], re.M)[-1:] if match[1] else []
                 path = "::".join(module + [word for word in owner if word] + [match[2]])
                 found[crate, path] = Function(crate, path, text, match.end(), fields)
     return found

@@ -3,7 +3,6 @@
 
 #![tactic(auto)]
 
-mod calls;
 mod embedded;
 mod help;
 mod ids;
@@ -15,7 +14,6 @@ mod output;
 mod report;
 mod script;
 mod session;
-mod slices;
 mod tables;
 mod tally;
 mod tell;
@@ -23,7 +21,6 @@ mod work;
 
 use job::Job;
 use lines::Source;
-use model::compare::equal;
 use options::{Command, Options};
 use output::Stream;
 use std::fs::File;
@@ -38,10 +35,9 @@ fn opened(rt: &HostRuntime, path: &[u8]) -> io::Result<File> {
 }
 
 fn job_of<'a>(rt: &HostRuntime, options: Options, command: Command, source: Source<'a>) -> Job<'a> {
-    let name = options.name;
     Job {
         command,
-        name,
+        name: options.name,
         bare: options.bare,
         source,
         output: Stream::Output(rt.stdout()),
@@ -49,68 +45,61 @@ fn job_of<'a>(rt: &HostRuntime, options: Options, command: Command, source: Sour
     }
 }
 
-// Whether the command goes without a file.
-fn needs_no_file(command: Command) -> bool {
-    match command {
-        Command::Check => true,
-        _ => false,
-    }
-}
-
-// Reads the file that argument `options.file` names; says why in words, where there is none.
-fn run_on_path(rt: &HostRuntime, options: Options) {
+// Reads the file that argument `i` names; says why in words, where there is none.
+fn run_on_path(rt: &HostRuntime, options: Options, i: usize) -> io::Result<()> {
     let command = options.command;
     let errors = Stream::Errors(rt.stderr());
     let mut word = [0u8; 4096];
-    let length = options::argument(rt, options.file, &mut word);
+    let length = options::argument(rt, i, &mut word);
     let path = &word[..length];
-    if equal(path, b"-") {
-        let input = Source::Input(rt.stdin());
-        return embedded::run(job_of(rt, options, command, input));
+    if path == b"-".as_slice() {
+        embedded::run(job_of(rt, options, command, Source::Input(rt.stdin())));
+        return Ok(());
     }
     match opened(rt, path) {
-        Ok(file) => embedded::run(job_of(rt, options, command, Source::File(&file))),
+        Ok(file) => {
+            embedded::run(job_of(rt, options, command, Source::File(&file)));
+            Ok(())
+        }
         Err(error) => {
-            output::fail(errors, path, error);
-            help::not_ok(errors, b"nothing was read");
+            output::fail(errors, path, error)?;
+            help::not_ok(errors, "nothing was read")
         }
     }
 }
 
-fn run_on_file(rt: &HostRuntime, options: Options) {
-    let command = options.command;
-    if options.file == 0 {
-        if needs_no_file(command) {
-            return embedded::run(job_of(rt, options, command, Source::Nowhere));
-        }
-        return help::not_ok(
-            Stream::Errors(rt.stderr()),
-            b"which FILE? - is standard input; captions --help says more",
-        );
+fn run_as_told(rt: &HostRuntime, options: Options) -> io::Result<()> {
+    let errors = Stream::Errors(rt.stderr());
+    if options.help {
+        return help::tell(Stream::Output(rt.stdout()));
     }
-    run_on_path(rt, options);
+    if let Some(i) = options.wrong {
+        return help::tell_wrong(rt, errors, i);
+    }
+    if options.expects_name {
+        return help::not_ok(errors, "--model wants embedded, T or U");
+    }
+    if let Some(i) = options.file {
+        return run_on_path(rt, options, i);
+    }
+    let (command, source) = match options.command {
+        Command::Show if options.bare => (Command::Encode, Source::Script),
+        Command::Show => (Command::Show, Source::Script),
+        // The one command that goes without a file.
+        Command::Check => (Command::Check, Source::Nowhere),
+        _ => {
+            return help::not_ok(
+                errors,
+                "which FILE? - is standard input; captions --help says more",
+            );
+        }
+    };
+    embedded::run(job_of(rt, options, command, source));
+    Ok(())
 }
 
 fn main(rt: HostRuntime) {
     let options = options::read(&rt);
-    let command = options.command;
-    if options.help {
-        return help::tell(Stream::Output(rt.stdout()));
-    }
-    if options.wrong != 0 {
-        return help::tell_wrong(&rt, Stream::Errors(rt.stderr()), options);
-    }
-    if options.expects_name {
-        return help::not_ok(
-            Stream::Errors(rt.stderr()),
-            b"--model wants embedded, T or U",
-        );
-    }
-    let Command::Show = command else {
-        return run_on_file(&rt, options);
-    };
-    if options.bare {
-        return embedded::run(job_of(&rt, options, Command::Encode, Source::Script));
-    }
-    embedded::run(job_of(&rt, options, command, Source::Script));
+    // What a run cannot write it says on standard error, as far as that takes it.
+    let _ = run_as_told(&rt, options);
 }

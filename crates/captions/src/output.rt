@@ -1,6 +1,5 @@
-// What a run writes to, and how. Each function that writes answers whether all of it was taken.
-use crate::slices::end_of;
-use model::tables::part;
+// What a run writes to.
+use std::fmt::Display;
 use std::io;
 use std::io::{Stderr, Stdout, Write};
 
@@ -10,46 +9,47 @@ pub(crate) enum Stream {
     Errors(Stderr),
 }
 
-pub(crate) fn write_all(to: Stream, bytes: &[u8]) -> bool {
-    match to {
-        Stream::Output(output) => Print::write_all(&output, bytes).is_ok(),
-        Stream::Errors(errors) => Print::write_all(&errors, bytes).is_ok(),
-    }
-}
-
-pub(crate) fn print_decimal(to: Stream, n: u64) -> bool {
-    match to {
-        Stream::Output(output) => output.print(n).is_ok(),
-        Stream::Errors(errors) => errors.print(n).is_ok(),
-    }
-}
-
-// Two digits, in lower case.
-pub(crate) fn print_hex(to: Stream, byte: u8) -> bool {
-    match to {
-        Stream::Output(output) => print!(output; "{byte:02x}").is_ok(),
-        Stream::Errors(errors) => print!(errors; "{byte:02x}").is_ok(),
-    }
-}
-
-// Where the system's words for an error end, and its number follows in brackets.
-fn words_end(text: &[u8]) -> usize {
-    let bracket = end_of(text, 0, b'(');
-    if bracket < text.len() {
-        if 0 < bracket {
-            return bracket - 1;
+impl Print for Stream {
+    fn print<D: Display + Drop>(&self, value: D) -> io::Result<()> {
+        match self {
+            Stream::Output(output) => output.print(value),
+            Stream::Errors(errors) => errors.print(value),
         }
     }
-    end_of(text, 0, 0)
+
+    fn println<D: Display + Drop>(&self, value: D) -> io::Result<()> {
+        match self {
+            Stream::Output(output) => output.println(value),
+            Stream::Errors(errors) => errors.println(value),
+        }
+    }
+
+    fn write_all(&self, bytes: &[u8]) -> io::Result<()> {
+        match self {
+            Stream::Output(output) => Print::write_all(output, bytes),
+            Stream::Errors(errors) => Print::write_all(errors, bytes),
+        }
+    }
+}
+
+// The system's words for an error, without the number that follows in brackets.
+fn words(text: &[u8]) -> &[u8] {
+    match text.iter().position(|byte| *byte == b'(') {
+        Some(bracket) if 0 < bracket => &text[..bracket - 1],
+        _ => match text.iter().position(|byte| *byte == 0) {
+            Some(end) => &text[..end],
+            None => text,
+        },
+    }
 }
 
 // What failed, and why.
-pub(crate) fn fail(to: Stream, what: &[u8], error: io::Error) {
+pub(crate) fn fail(to: Stream, what: &[u8], error: io::Error) -> io::Result<()> {
     let mut text = [0u8; 128];
     let mut room = &mut text[..];
     let _ = write!(room, "{error}");
-    write_all(to, what);
-    write_all(to, b": ");
-    write_all(to, part(&text, 0, words_end(&text)));
-    write_all(to, b"\n");
+    Print::write_all(&to, what)?;
+    print!(to; ": ")?;
+    Print::write_all(&to, words(&text))?;
+    println!(to;)
 }

@@ -1,10 +1,3 @@
 // The built-in script.
-use crate::slices::copy;
-
-// Puts the script into the input, and answers how long it is.
-pub(crate) fn load(input: &mut [u8]) -> usize {
-    let script =
-        b"Le rideau se l\xC3\xA8ve : \xC3\x87a commence.\nUne \xC5\x93uvre tr\xC3\xA8s aim\xC3\xA9e \xE2\x80\x94 et d\xC3\xA9j\xC3\xA0 not\xC3\xA9e \xE2\x99\xAB\nab a\n";
-    copy(script, input);
-    script.len()
-}
+pub(crate) const SCRIPT: &str =
+    "Le rideau se l\u{E8}ve : \u{C7}a commence.\nUne \u{153}uvre tr\u{E8}s aim\u{E9}e \u{2014} et d\u{E9}j\u{E0} not\u{E9}e \u{266B}\nab a\n";

@@ -1,287 +1,79 @@
-// A model is checked and prepared once, and then used for every line. Wherever it comes from, its columns come here.
-ghost use Rattle.std.specs.Prelude.{◌<◌};
-ghost use Rattle.model.specs.Model.{model_of, token_list};
+// A model is checked and prepared once, and then used for every line. Wherever it comes from, it comes here.
+ghost use Rattle.std.specs.Prelude.{◌≡◌};
+ghost use Rattle.model.specs.Check.{check_number};
+ghost use Rattle.model.specs.Model.{columns};
 ghost use Rattle.captions.specs.Ready.{Ready};
 
 use crate::job::Job;
-use crate::lines::LONGEST;
-use crate::report::told;
-use crate::work::{State, begun, moved_on};
-use crate::{calls, report, tell};
-use model::tables::part;
-use model::{Metaspace, PrependScheme, Step};
+use crate::lines::{Line, Lines};
+use crate::tally::Tally;
+use crate::tell::Reason;
+use crate::work::{Buffers, work};
+use crate::{report, tell};
+use model::Model;
+use prepare::Prepared;
 
-// Ids are at most twice as many as a line's bytes, and two more; normalised text is at most three times as long, and three bytes more.
-const IDS: usize = 2 * LONGEST + 2;
-
-const BYTES: usize = 3 * LONGEST + 3;
-
-fn turns_left(turns: u64, over: bool) -> u64
-    requires { 0 < turns }
-    ensures { result < turns }
-{
-    if over { 0 } else { turns - 1 }
+fn refuse(job: Job<'_>, reason: Reason, tally: &mut Tally) {
+    tally.count_refusal();
+    tally.note(report::refused(job, tally.lines, reason));
 }
 
-// A proved loop has to end, and nothing says that what is read does: the turns are counted down from a number that no run uses up.
-fn all_lines(
-    pieces: &[u8],
-    offsets: &[u32],
-    lookup: &[u32],
-    fallback: &[u32],
-    left: &[u32],
-    right: &[u32],
-    res: &[u32],
-    rank: &[u32],
-    first: &[u8],
-    first_offsets: &[u32],
-    first_ids: &[u32],
-    first_lstrip: &[bool],
-    first_rstrip: &[bool],
-    second: &[u8],
-    second_offsets: &[u32],
-    second_ids: &[u32],
-    second_lstrip: &[bool],
-    second_rstrip: &[bool],
-    step_bytes: &[u8],
-    steps: [Step; 16],
-    step_count: usize,
-    metaspace: Metaspace,
-    adjacency: &[u64],
-    index: &[u32],
-    job: Job<'_>,
-    input: &mut [u8],
-    cells: &mut [u32],
-    others: &mut [u32],
-    bytes: &mut [u8],
-    a: &mut [u8],
-    b: &mut [u8],
-) -> State
-    requires { Ready (model_of pieces.now offsets.now lookup.now fallback.now left.now right.now res.now rank.now (token_list first.now first_offsets.now first_ids.now first_lstrip.now first_rstrip.now) (token_list second.now second_offsets.now second_ids.now second_lstrip.now second_rstrip.now) step_bytes.now steps step_count metaspace) adjacency.now index.now }
+// A proved loop has to end, and nothing says that what is read does: the turns are more than any run takes.
+fn all_lines(prepared: &Prepared<'_>, job: Job<'_>)
+    requires { Ready (columns prepared.now.model.now) prepared.now.adjacency.now prepared.now.index.now }
 {
-    let mut state = begun();
-    let mut turns = u64::MAX;
-    while turns > 0 {
-        let call = state.call;
-        let answer = calls::run(
-            pieces,
-            offsets,
-            lookup,
-            fallback,
-            left,
-            right,
-            res,
-            rank,
-            first,
-            first_offsets,
-            first_ids,
-            first_lstrip,
-            first_rstrip,
-            second,
-            second_offsets,
-            second_ids,
-            second_lstrip,
-            second_rstrip,
-            step_bytes,
-            steps,
-            step_count,
-            metaspace,
-            adjacency,
-            index,
-            call,
-            part(input, state.from, state.to),
-            state.count,
-            cells,
-            others,
-            bytes,
-            a,
-            b,
-        );
-        state = told(
-            job,
-            state,
-            part(input, state.from, state.to),
-            pieces,
-            offsets,
-            answer,
-            cells,
-            others,
-            bytes,
-        );
-        state = moved_on(job, input, state);
-        turns = turns_left(turns, state.over);
+    let mut lent = Buffers::new();
+    let mut lines = Lines::new();
+    let mut tally = Tally::default();
+    for _ in 0..u64::MAX {
+        match lines.next(job) {
+            Line::End => break,
+            Line::More => {}
+            Line::TooLong(length) => {
+                tally.count_line(job.errors, length);
+                refuse(job, Reason::TooLong, &mut tally);
+            }
+            Line::Whole(text) => {
+                tally.count_line(job.errors, text.len());
+                if let Err(reason) = work(prepared, job, text, &mut lent, &mut tally) {
+                    refuse(job, reason, &mut tally);
+                }
+            }
+        }
     }
-    state
+    if tally
+        .tell(tell::remarks(job), job.command, lines.has_failed())
+        .is_err()
+    {
+        let _ = println!(job.errors; "not ok: standard output did not take all");
+    }
 }
 
-pub(crate) fn run(
-    pieces: &[u8],
-    offsets: &[u32],
-    lookup: &[u32],
-    fallback: &[u32],
-    left: &[u32],
-    right: &[u32],
-    res: &[u32],
-    rank: &[u32],
-    first: &[u8],
-    first_offsets: &[u32],
-    first_ids: &[u32],
-    first_lstrip: &[bool],
-    first_rstrip: &[bool],
-    second: &[u8],
-    second_offsets: &[u32],
-    second_ids: &[u32],
-    second_lstrip: &[bool],
-    second_rstrip: &[bool],
-    step_bytes: &[u8],
-    steps: [Step; 16],
-    step_count: usize,
-    metaspace: Metaspace,
-    job: Job<'_>,
-) {
-    let to = tell::remarks(job);
-    let checked = model::check(
-        pieces,
-        offsets,
-        lookup,
-        fallback,
-        left,
-        right,
-        res,
-        rank,
-        first,
-        first_offsets,
-        first_ids,
-        first_lstrip,
-        first_rstrip,
-        second,
-        second_offsets,
-        second_ids,
-        second_lstrip,
-        second_rstrip,
-        step_bytes,
-        steps,
-        step_count,
-        metaspace,
-    );
-    report::model(to, job, offsets, left, checked);
-    if checked.number != 0 {
-        return;
-    }
+// Prepares a model that the check accepts, and goes through the lines.
+fn run_accepted(model: &Model<'_>, job: Job<'_>)
+    requires { check_number (columns model.now) ≡ 0 }
+{
     let mut adjacency = [0u64; prepare::ADJACENCY_LEN];
     let mut index = [0u32; prepare::INDEX_LEN];
-    prepare::prepare_checked(
-        pieces,
-        offsets,
-        lookup,
-        fallback,
-        left,
-        right,
-        res,
-        rank,
-        first,
-        first_offsets,
-        first_ids,
-        first_lstrip,
-        first_rstrip,
-        second,
-        second_offsets,
-        second_ids,
-        second_lstrip,
-        second_rstrip,
-        step_bytes,
-        steps,
-        step_count,
-        metaspace,
-        &mut adjacency,
-        &mut index,
-    );
-    let mut input = [0u8; LONGEST + 1];
-    let mut cells = [0u32; IDS];
-    let mut others = [0u32; IDS];
-    let mut bytes = [0u8; BYTES];
-    let mut a = [0u8; BYTES];
-    let mut b = [0u8; BYTES];
-    let reached = all_lines(
-        pieces,
-        offsets,
-        lookup,
-        fallback,
-        left,
-        right,
-        res,
-        rank,
-        first,
-        first_offsets,
-        first_ids,
-        first_lstrip,
-        first_rstrip,
-        second,
-        second_offsets,
-        second_ids,
-        second_lstrip,
-        second_rstrip,
-        step_bytes,
-        steps,
-        step_count,
-        metaspace,
-        &adjacency,
-        &index,
-        job,
-        &mut input,
-        &mut cells,
-        &mut others,
-        &mut bytes,
-        &mut a,
-        &mut b,
-    );
-    report::end(to, job, reached);
+    // The rows are long enough, so nothing is refused.
+    let _ = prepare::prepare_checked(model, &mut adjacency, &mut index);
+    let prepared = Prepared {
+        model,
+        adjacency: &adjacency,
+        index: &index,
+    };
+    all_lines(&prepared, job);
 }
 
-// A model without tokens and steps, whose metaspace is T's.
-pub(crate) fn run_plain(
-    pieces: &[u8],
-    offsets: &[u32],
-    lookup: &[u32],
-    fallback: &[u32],
-    left: &[u32],
-    right: &[u32],
-    res: &[u32],
-    rank: &[u32],
-    job: Job<'_>,
-) {
-    let no_offsets = [0u32];
-    let no_ids = [0u32; 0];
-    let no_flags = [false; 0];
-    run(
-        pieces,
-        offsets,
-        lookup,
-        fallback,
-        left,
-        right,
-        res,
-        rank,
-        b"",
-        &no_offsets,
-        &no_ids,
-        &no_flags,
-        &no_flags,
-        b"",
-        &no_offsets,
-        &no_ids,
-        &no_flags,
-        &no_flags,
-        b"",
-        [Step::Strip {
-            left: false,
-            right: false,
-        }; 16],
-        0,
-        Metaspace::Present {
-            prepend: PrependScheme::Always,
-            split: false,
-        },
-        job,
-    );
+pub(crate) fn run(model: &Model<'_>, job: Job<'_>) {
+    let to = tell::remarks(job);
+    match model::check(model) {
+        Ok(()) => {
+            let _ = report::model_accepted(to, job, model);
+            run_accepted(model, job);
+        }
+        Err(refusal) => {
+            let _ = report::model_refused(to, job, model, refusal);
+        }
+    }
 }

@@ -1,135 +1,90 @@
-// What came of the lines so far, and how far the work is.
-use crate::options::{Command, goes_back};
-use crate::output::{Stream, print_decimal, write_all};
-use model::Answer;
+// What came of the lines so far.
+use crate::options::Command;
+use crate::output::Stream;
+use model::Counts;
+use std::io;
 
-#[derive(Clone, Copy)]
+#[derive(Clone, Copy, Default)]
 pub(crate) struct Tally {
     pub lines: usize,
-    pub bytes: usize,
-    pub refused: usize,
-    pub drops: usize,
-    pub skips: usize,
+    bytes: usize,
+    refused: usize,
+    drops: usize,
+    skips: usize,
     // Lines whose ids do not decode to them again.
-    pub changed: usize,
+    changed: usize,
     // Whether standard output did not take all that was written to it.
-    pub unwritten: bool,
+    unwritten: bool,
 }
 
 const MIB: usize = 1048576;
 
-pub(crate) fn nothing_yet() -> Tally {
-    Tally {
-        lines: 0,
-        bytes: 0,
-        refused: 0,
-        drops: 0,
-        skips: 0,
-        changed: 0,
-        unwritten: false,
+impl Tally {
+    // Counts a line, and says on standard error when another MiB is done.
+    pub(crate) fn count_line(&mut self, errors: Stream, bytes: usize) {
+        let before = self.bytes / MIB;
+        self.lines = self.lines.saturating_add(1);
+        self.bytes = self.bytes.saturating_add(bytes).saturating_add(1);
+        let done = self.bytes / MIB;
+        if before < done {
+            let _ = println!(errors; "captions: {done} MiB done, {} lines", self.lines);
+        }
     }
-}
 
-// A sum that stays at the largest number where it would pass it.
-fn plus(a: usize, b: usize) -> usize {
-    if usize::MAX - a < b {
-        return usize::MAX;
+    pub(crate) fn count_refusal(&mut self) {
+        self.refused = self.refused.saturating_add(1);
     }
-    a + b
-}
 
-// Counts a line, and says on standard error when another MiB is done.
-pub(crate) fn with_line(errors: Stream, tally: Tally, bytes: usize) -> Tally {
-    let mut after = tally;
-    after.lines = plus(tally.lines, 1);
-    after.bytes = plus(plus(tally.bytes, bytes), 1);
-    if tally.bytes / MIB < after.bytes / MIB {
-        write_all(errors, b"captions: ");
-        print_decimal(errors, (after.bytes / MIB) as u64);
-        write_all(errors, b" MiB done, ");
-        print_decimal(errors, after.lines as u64);
-        write_all(errors, b" lines\n");
+    pub(crate) fn count_change(&mut self) {
+        self.changed = self.changed.saturating_add(1);
     }
-    after
-}
 
-pub(crate) fn with_refusal(tally: Tally) -> Tally {
-    let mut after = tally;
-    after.refused = plus(tally.refused, 1);
-    after
-}
+    // What an accepted call dropped and skipped.
+    pub(crate) fn count(&mut self, counts: Counts) {
+        self.drops = self.drops.saturating_add(counts.drops);
+        self.skips = self.skips.saturating_add(counts.skips);
+    }
 
-pub(crate) fn with_change(tally: Tally) -> Tally {
-    let mut after = tally;
-    after.changed = plus(tally.changed, 1);
-    after
-}
+    pub(crate) fn note(&mut self, wrote: io::Result<()>) {
+        if wrote.is_err() {
+            self.unwritten = true;
+        }
+    }
 
-pub(crate) fn with_write(tally: Tally, wrote: bool) -> Tally {
-    let mut after = tally;
-    if !wrote {
-        after.unwritten = true;
+    // Whether nothing was refused, lost or changed.
+    fn is_well(&self) -> bool {
+        !self.unwritten
+            && self.refused == 0
+            && self.drops == 0
+            && self.skips == 0
+            && self.changed == 0
     }
-    after
-}
 
-// Counts what an accepted call dropped and skipped, or that it refused.
-pub(crate) fn with_answer(tally: Tally, answer: Answer) -> Tally {
-    if answer.number != 0 {
-        return with_refusal(tally);
+    fn verdict(&self, failed: bool) -> &'static str {
+        if failed {
+            "not ok: reading failed, so that lines are missing: "
+        } else if self.is_well() {
+            "ok: "
+        } else if self.unwritten {
+            "not ok: standard output did not take all: "
+        } else {
+            "not ok: "
+        }
     }
-    let mut after = tally;
-    after.drops = plus(tally.drops, answer.drops);
-    after.skips = plus(tally.skips, answer.skips);
-    after
-}
 
-// Whether nothing was refused, lost or changed.
-fn all_well(tally: Tally) -> bool {
-    if tally.unwritten {
-        return false;
+    // The last line of every run that has a model.
+    pub(crate) fn tell(&self, to: Stream, command: Command, failed: bool) -> io::Result<()> {
+        print!(to;
+            "{}lines {}, refused {}, characters dropped {}, ids skipped {}",
+            self.verdict(failed),
+            self.lines,
+            self.refused,
+            self.drops,
+            self.skips
+        )?;
+        if command.goes_back() {
+            print!(to; ", lines changed on the way back {}", self.changed)?;
+        }
+        println!(to;)
     }
-    if tally.refused != 0 {
-        return false;
-    }
-    if tally.drops != 0 {
-        return false;
-    }
-    if tally.skips != 0 {
-        return false;
-    }
-    tally.changed == 0
-}
-
-fn verdict(to: Stream, failed: bool, tally: Tally) {
-    if failed {
-        write_all(to, b"not ok: reading failed, so that lines are missing: ");
-        return;
-    }
-    if all_well(tally) {
-        write_all(to, b"ok: ");
-        return;
-    }
-    write_all(to, b"not ok: ");
-    if tally.unwritten {
-        write_all(to, b"standard output did not take all: ");
-    }
-}
-
-// The last line of every run that has a model. Answers whether it was written.
-pub(crate) fn tell(to: Stream, command: Command, failed: bool, tally: Tally) -> bool {
-    verdict(to, failed, tally);
-    write_all(to, b"lines ");
-    print_decimal(to, tally.lines as u64);
-    write_all(to, b", refused ");
-    print_decimal(to, tally.refused as u64);
-    write_all(to, b", characters dropped ");
-    print_decimal(to, tally.drops as u64);
-    write_all(to, b", ids skipped ");
-    print_decimal(to, tally.skips as u64);
-    if goes_back(command) {
-        write_all(to, b", lines changed on the way back ");
-        print_decimal(to, tally.changed as u64);
-    }
-    write_all(to, b"\n")
 }

@@ -1,156 +1,163 @@
-// Where the work is: the line, and which of a command's calls come next on it.
-use crate::calls::Call;
+// What a command does with one line, by a model that is checked and prepared.
+ghost use Rattle.model.specs.Model.{columns};
+ghost use Rattle.captions.specs.Ready.{Ready};
+
+use crate::ids::parse;
 use crate::job::Job;
-use crate::lines::{Kind, Lines, next_line};
-use crate::options::{Command, goes_back};
-use crate::tally::{Tally, with_answer, with_line, with_refusal, with_write};
-use crate::{report, tally};
-use model::Answer;
-use model::tables::part;
+use crate::lines::LONGEST;
+use crate::options::Command;
+use crate::report;
+use crate::tally::Tally;
+use crate::tell::Reason;
+use prepare::Prepared;
 
-#[derive(Clone, Copy)]
-pub(crate) struct State {
-    pub lines: Lines,
-    // Where the line stands in the input.
-    pub from: usize,
-    pub to: usize,
-    // The call that comes next, and how many ids the one before left.
-    pub call: Call,
-    pub count: usize,
-    pub tally: Tally,
-    pub over: bool,
+// Ids are at most twice as many as a line's bytes, and two more; normalised text is at most three times as long, and three bytes more.
+const IDS: usize = 2 * LONGEST + 2;
+
+const BYTES: usize = 3 * LONGEST + 3;
+
+// The buffers that every line is lent.
+#[derive(Drop)]
+pub(crate) struct Buffers {
+    cells: [u32; IDS],
+    bytes: [u8; BYTES],
+    a: [u8; BYTES],
+    b: [u8; BYTES],
 }
 
-pub(crate) fn begun() -> State {
-    State {
-        lines: Lines {
-            start: 0,
-            end: 0,
-            ended: false,
-            failed: false,
-            skipping: false,
-        },
-        from: 0,
-        to: 0,
-        call: Call::Nothing,
-        count: 0,
-        tally: tally::nothing_yet(),
-        over: false,
-    }
-}
-
-fn first_call(command: Command) -> Call {
-    match command {
-        Command::Show => Call::Fragments,
-        Command::Encode => Call::Encode,
-        Command::Decode => Call::Parse,
-        Command::Fragments => Call::Fragments,
-        Command::Normalise => Call::Normalise,
-        Command::Check => Call::Encode,
-    }
-}
-
-// The call behind `call`, on the same line; nothing where that was the last.
-fn next_call(command: Command, call: Call) -> Call {
-    match call {
-        Call::Nothing => Call::Nothing,
-        Call::Encode => {
-            if goes_back(command) {
-                Call::Decode
-            } else {
-                Call::Nothing
-            }
+impl Buffers {
+    pub(crate) fn new() -> Buffers {
+        Buffers {
+            cells: [0; IDS],
+            bytes: [0; BYTES],
+            a: [0; BYTES],
+            b: [0; BYTES],
         }
-        Call::Fragments => {
-            if goes_back(command) {
-                Call::Encode
-            } else {
-                Call::Nothing
-            }
+    }
+}
+
+fn front<T>(items: &[T], count: usize) -> &[T] {
+    match items.get(..count) {
+        Some(front) => front,
+        None => items,
+    }
+}
+
+fn cut(
+    prepared: &Prepared<'_>,
+    job: Job<'_>,
+    text: &[u8],
+    ranges: &mut [u32],
+    tally: &mut Tally,
+) -> Result<(), Reason>
+    requires { Ready (columns prepared.now.model.now) prepared.now.adjacency.now prepared.now.index.now }
+{
+    let counts = fragments::fragments_prepared(prepared, text, 0, ranges)?;
+    tally.count(counts);
+    tally.note(report::cut(job, tally.lines, text, front(ranges, counts.written)));
+    Ok(())
+}
+
+// The ids stay in the cells; answers how many there are.
+fn encode(
+    prepared: &Prepared<'_>,
+    job: Job<'_>,
+    text: &[u8],
+    lent: &mut Buffers,
+    tally: &mut Tally,
+) -> Result<usize, Reason>
+    requires { Ready (columns prepared.now.model.now) prepared.now.adjacency.now prepared.now.index.now }
+{
+    let counts = encode::encode_prepared(
+        prepared,
+        text,
+        false,
+        &mut lent.cells,
+        &mut lent.a,
+        &mut lent.b,
+    )?;
+    tally.count(counts);
+    let ids = front(&lent.cells, counts.written);
+    tally.note(report::encoded(job, tally.lines, text, &prepared.model.pieces, counts, ids));
+    Ok(counts.written)
+}
+
+// The first `count` cells are ids.
+fn decode(
+    prepared: &Prepared<'_>,
+    job: Job<'_>,
+    text: &[u8],
+    count: usize,
+    lent: &mut Buffers,
+    tally: &mut Tally,
+) -> Result<(), Reason>
+    requires { Ready (columns prepared.now.model.now) prepared.now.adjacency.now prepared.now.index.now }
+{
+    let counts = decode::decode_checked(
+        prepared.model,
+        front(&lent.cells, count),
+        &mut lent.bytes,
+    )?;
+    tally.count(counts);
+    let back = front(&lent.bytes, counts.written);
+    if job.command != Command::Decode && back != text {
+        tally.count_change();
+    }
+    tally.note(report::decoded(job, tally.lines, text, counts, back));
+    Ok(())
+}
+
+fn normalise(
+    prepared: &Prepared<'_>,
+    job: Job<'_>,
+    text: &[u8],
+    lent: &mut Buffers,
+    tally: &mut Tally,
+) -> Result<(), Reason>
+    requires { Ready (columns prepared.now.model.now) prepared.now.adjacency.now prepared.now.index.now }
+{
+    let counts = normalise::normalise_checked(
+        prepared.model,
+        text,
+        true,
+        &mut lent.bytes,
+        &mut lent.a,
+        &mut lent.b,
+    )?;
+    tally.count(counts);
+    tally.note(report::written(job, tally.lines, counts, front(&lent.bytes, counts.written)));
+    Ok(())
+}
+
+// Does with a line what the command says. What is told before a call refuses stays told.
+pub(crate) fn work(
+    prepared: &Prepared<'_>,
+    job: Job<'_>,
+    text: &[u8],
+    lent: &mut Buffers,
+    tally: &mut Tally,
+) -> Result<(), Reason>
+    requires { Ready (columns prepared.now.model.now) prepared.now.adjacency.now prepared.now.index.now }
+{
+    match job.command {
+        Command::Show => {
+            cut(prepared, job, text, &mut lent.cells, tally)?;
+            let count = encode(prepared, job, text, lent, tally)?;
+            decode(prepared, job, text, count, lent, tally)
         }
-        Call::Parse => Call::Decode,
-        Call::Decode => Call::Nothing,
-        Call::Normalise => Call::Nothing,
-    }
-}
-
-// What a call answered, counted; a refusal ends the work on the line.
-pub(crate) fn after_call(job: Job<'_>, state: State, answer: Answer, tally: Tally) -> State {
-    let lines = state.lines;
-    let command = job.command;
-    let call = state.call;
-    let counted = with_answer(tally, answer);
-    let next = if answer.number == 0 {
-        next_call(command, call)
-    } else {
-        Call::Nothing
-    };
-    State {
-        lines,
-        from: state.from,
-        to: state.to,
-        call: next,
-        count: answer.written,
-        tally: counted,
-        over: false,
-    }
-}
-
-fn at_line(command: Command, lines: Lines, from: usize, to: usize, tally: Tally) -> State {
-    State {
-        lines,
-        from,
-        to,
-        call: first_call(command),
-        count: 0,
-        tally,
-        over: false,
-    }
-}
-
-fn without_line(lines: Lines, tally: Tally, over: bool) -> State {
-    State {
-        lines,
-        from: 0,
-        to: 0,
-        call: Call::Nothing,
-        count: 0,
-        tally,
-        over,
-    }
-}
-
-// Goes on to the next line once the last call is made.
-pub(crate) fn moved_on(job: Job<'_>, input: &mut [u8], state: State) -> State {
-    let call = state.call;
-    let lines = state.lines;
-    let before = state.tally;
-    let command = job.command;
-    let Call::Nothing = call else {
-        return state;
-    };
-    let line = next_line(job, input, lines);
-    let next = line.next;
-    let kind = line.kind;
-    match kind {
-        Kind::End => without_line(next, before, true),
-        Kind::More => without_line(next, before, false),
-        Kind::TooLong => {
-            let counted = with_line(job.errors, before, input.len());
-            let wrote = report::too_long(job, counted.lines);
-            without_line(next, with_write(with_refusal(counted), wrote), false)
+        Command::Check => {
+            let count = encode(prepared, job, text, lent, tally)?;
+            decode(prepared, job, text, count, lent, tally)
         }
-        Kind::Whole => {
-            let from = line.from;
-            let to = line.to;
-            let text = part(input, from, to);
-            at_line(
-                command,
-                next,
-                from,
-                to,
-                with_line(job.errors, before, text.len()),
-            )
+        Command::Encode => {
+            encode(prepared, job, text, lent, tally)?;
+            Ok(())
         }
+        Command::Decode => {
+            let count = parse(text, &mut lent.cells)?;
+            decode(prepared, job, text, count, lent, tally)
+        }
+        Command::Fragments => cut(prepared, job, text, &mut lent.cells, tally),
+        Command::Normalise => normalise(prepared, job, text, lent, tally),
     }
 }

@@ -7,8 +7,8 @@ use mathlib.Core.Bool.{Bool, true, false, not, cond, ◌&&◌, ◌||◌, and-fal
 use mathlib.Core.List.{List, [], ◌∷◌, ◌++◌, append-nil, append_assoc}
 use lib.ListN.{length, drop, replicate, length-append}
 use lib.Seq.{sets}
-use borrow.Author.Tests.{eqb-true, ltb-true}
-use lib.Dec.{eqb, ltb}
+use borrow.Author.Tests.{ltb-true}
+use lib.Dec.{ltb}
 use Rattle.utf8.specs.Lists.{all, is_empty, join, starts_with, Range}
 use Rattle.utf8.specs.Chars.{char_forms, char_width, chars, is_char}
 use Rattle.utf8.proofs.Tests.{clash, and_left, and_right}
@@ -21,7 +21,7 @@ use Rattle.decode.specs.inner.Words.{is_plain, head_spaced}
 use Rattle.decode.proofs.FormLaws.{ascii_form, open_first, broken_none}
 use Rattle.decode.proofs.FedLaws.{held_open_after, chars-fed, chars_open}
 use Rattle.decode.proofs.TextLaws.{shown_text-append, shown_strays, shown_ascii, shown-mark}
-use Rattle.decode.proofs.StateLaws.{held_none, held-holding, held-count, held_state, sound_empty, sound_after, sets_append, strays_long, fed-append, put_out-append, state_append}
+use Rattle.decode.proofs.StateLaws.{held-holding, form, held_state, sound_empty, sound_after, sets_append, strays_long, fed-append, put_out-append, state_append}
 
 -- ---- one byte
 
@@ -70,26 +70,25 @@ module _ (s : Decoder) (b : ℕ) (at : ℕ) (out : List ℕ) where
     next_broken = rw broken
 
     put_out_anew : put_out (holding [] true) (b ∷ []) ≡ shown_text false (settled [] (b ∷ []))
-    unfolding put_out holding held_by
+    unfolding put_out holding
     put_out_anew = refl
 
-    put_out_broken : put_out s (b ∷ []) ≡ join (replicate s.count replacement) ++ put_out (holding [] true) (b ∷ [])
+    put_out_broken : put_out s (b ∷ []) ≡ join (replicate (length (held_by s)) replacement) ++ put_out (holding [] true) (b ∷ [])
     unfolding put_out
     put_out_broken =
         ap (shown_text (not s.begun)) settled_broken
         ∙ shown_text-append (not s.begun) (singles (held_by s)) (settled [] (b ∷ []))
         ∙ rw (shown_strays (not s.begun) (held_by s) sound.unfinished, empty-singles (held_by s), some-held, and-false (not s.begun), ← put_out_anew)
-        (ap (λ (n : ℕ). join (replicate n replacement) ++ put_out (holding [] true) (b ∷ [])) (sym (held-count s sound)))
 
     state_broken : state_after s (b ∷ []) ≡ state_after (holding [] true) (b ∷ [])
-    unfolding state_after holding held_by
+    unfolding state_after holding
     state_broken = rw (begun_broken, next_broken)
 
-    pub taken_broken : (p : Put) (d : Decoder) (f : Fed) → p ≡ put (join (replicate s.count replacement)) at out → d ≡ holding [] true → f ≡ fed d (b ∷ []) p.at p.out
+    pub taken_broken : (p : Put) (d : Decoder) (f : Fed) → p ≡ put (join (replicate (length (held_by s)) replacement)) at out → d ≡ holding [] true → f ≡ fed d (b ∷ []) p.at p.out
         → f ≡ fed s (b ∷ []) at out
     unfolding fed put
     taken_broken p d f e anew g =
-        let strays = join (replicate s.count replacement) in
+        let strays = join (replicate (length (held_by s)) replacement) in
         let rest = put_out (holding [] true) (b ∷ []) in
         let far : at + length (put_out s (b ∷ [])) ≡ at + length strays + length rest = omega (arith, ap length put_out_broken, length-append strays rest) in
         g ∙ rw (anew, e, far, state_broken, put_out_broken, sets_append strays rest out at)
@@ -102,12 +101,16 @@ pub record Idle (s : Decoder) : Type 0 where
   pub begun : s.begun ≡ true
   pub same : s ≡ holding [] true
 
+nothing : (h : List ℕ) → is_empty h ≡ true → h ≡ []
+nothing [] e = refl
+nothing (a ∷ h) e = clash refl e
+
 pub idle : (s : Decoder) → Sound s → is_idle s ≡ true → Idle s
 unfolding is_idle
 idle s sound e =
-    let none = held_none s (eqb-true s.count 0 (and_left (eqb s.count 0) s.begun e)) in
-    let first = and_right (eqb s.count 0) s.begun e in
-    record { held = none; begun = first; same = sound.form ∙ ap₂ holding none first }
+    let none = nothing (held_by s) (and_left (is_empty (held_by s)) s.begun e) in
+    let first = and_right (is_empty (held_by s)) s.begun e in
+    record { held = none; begun = first; same = form s ∙ ap₂ holding none first }
 
 module _ (s : Decoder) (sound : Sound s) (ready : is_idle s ≡ true) (at : ℕ) (out : List ℕ) (p : Put) where
   -- A byte that is a character.
@@ -151,7 +154,7 @@ module _ (s : Decoder) (sound : Sound s) (ready : is_idle s ≡ true) (at : ℕ)
 
 pub state_nothing : (s : Decoder) → Sound s → state_after s [] ≡ s
 unfolding state_after
-state_nothing s sound = ap (holding (held_by s)) (or-false s.begun) ∙ sym sound.form
+state_nothing s sound = ap (holding (held_by s)) (or-false s.begun) ∙ sym (form s)
 
 module _ (s : Decoder) (sound : Sound s) (ready : is_idle s ≡ true) where
   plain_out : (b : ℕ) → b ≤ 0x7F → put_out s (b ∷ []) ≡ b ∷ []
@@ -197,7 +200,7 @@ module _ (s : Decoder) (sound : Sound s) (ready : is_idle s ≡ true) where
 
 pub fed-nothing : (s : Decoder) → Sound s → (at : ℕ) (out : List ℕ) → ◌≡◌ {A = Fed} (record { progress = record { decoder = s; at = at }; out = out }) (fed s [] at out)
 unfolding fed state_after put_out
-fed-nothing s sound at out = rw (or-false s.begun, add-zero at, ← sound.form)
+fed-nothing s sound at out = rw (or-false s.begun, add-zero at, ← form s)
 
 -- What is left to feed gives what feeding all gives.
 pub record Feeding (all : Fed) (s : Decoder) (rest : List ℕ) (at : ℕ) (out : List ℕ) : Type 0 where
@@ -234,13 +237,12 @@ module _ (begun : Bool) (bytes : List ℕ) where
 
   -- What is held at the end is stray.
   abbrev left : List ℕ
-  left = join (replicate (state_after anew bytes).count replacement)
+  left = join (replicate (length (held_by (state_after anew bytes))) replacement)
 
   left_strays : left ≡ join (replicate (length (held_after [] bytes)) replacement)
   left_strays =
       ap (λ (n : ℕ). join (replicate n replacement))
-      (held-count (state_after anew bytes) (sound_after anew (sound_empty begun) bytes)
-      ∙ ap length (held_state anew (sound_empty begun) bytes [] ∙ ap (λ (h : List ℕ). held_after h bytes) (held-empty begun)))
+      (ap length (held_state anew (sound_empty begun) bytes [] ∙ ap (λ (h : List ℕ). held_after h bytes) (held-empty begun)))
 
   all_settled : chars bytes ≡ settled [] bytes ++ singles (held_after [] bytes)
   unfolding is_open
@@ -251,7 +253,7 @@ module _ (begun : Bool) (bytes : List ℕ) where
       ∙ ap (λ (cs : List (List ℕ)). settled [] bytes ++ cs) (ap chars (append-nil (held_after [] bytes)) ∙ chars_open (held_after [] bytes) Open-after)
 
   put_out-all : put_out anew bytes ≡ shown_text (not begun) (settled [] bytes)
-  unfolding put_out holding held_by
+  unfolding put_out holding
   put_out-all = refl
 
   pub ended_text : shown_text (not begun) (chars bytes) ≡ put_out anew bytes ++ left
@@ -261,8 +263,8 @@ module _ (begun : Bool) (bytes : List ℕ) where
       ∙ shown_text-append (not begun) (settled [] bytes) (singles (held_after [] bytes))
       ∙ rw (shown_strays (not begun && is_empty (settled [] bytes)) (held_after [] bytes) (held_open_after [] bytes refl), left_strays, put_out-all)
 
-  pub ended-long : length (shown_text (not begun) (chars bytes)) ≡ length (put_out anew bytes) + (state_after anew bytes).count * 3
-  ended-long = omega (arith, ap length ended_text, length-append (put_out anew bytes) left, strays_long (state_after anew bytes).count)
+  pub ended-long : length (shown_text (not begun) (chars bytes)) ≡ length (put_out anew bytes) + length (held_by (state_after anew bytes)) * 3
+  ended-long = omega (arith, ap length ended_text, length-append (put_out anew bytes) left, strays_long (length (held_by (state_after anew bytes))))
 
   module _ (room : length (shown_text (not begun) (chars bytes)) + 13 ≤ largest) (d : Decoder) (is : d ≡ anew) where
     pub start_room : length (put_out d bytes) + 13 ≤ largest

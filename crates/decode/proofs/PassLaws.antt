@@ -21,7 +21,7 @@ use Rattle.model.proofs.StringLaws.{string_is, string_past}
 use Rattle.decode.specs.Decode.{replacement}
 use Rattle.decode.specs.declared.Decoder.{Decoder}
 use Rattle.decode.specs.declared.Progress.{Progress}
-use Rattle.decode.specs.inner.Feeding.{largest, is_idle, holding, shown_text, Sound, Fed, fed, Put, put, Front, put_out, state_after}
+use Rattle.decode.specs.inner.Feeding.{largest, is_idle, held_by, holding, shown_text, Sound, Fed, fed, Put, put, Front, put_out, state_after}
 use Rattle.decode.specs.inner.Words.{head_spaced, eight_at, quick_at, all_or_none}
 use Rattle.decode.proofs.StateLaws.{sets_past, sound_after, put_out-append, put_out-front, state_append}
 use Rattle.decode.proofs.QuickLaws.{quick, eight_front, all-or-none}
@@ -173,17 +173,17 @@ module _ (begun : Bool) (bytes : List ℕ) (room : length (shown_text (not begun
   after : r.decoder ≡ state_after (holding [] begun) bytes
   after = e ∙ ap (λ (s : Decoder). state_after s bytes) is
 
-  pub end_room : r.at + r.decoder.count * 3 ≤ largest
+  pub end_room : r.at + length (held_by r.decoder) * 3 ≤ largest
   end_room =
-      let count : r.decoder.count ≡ (state_after (holding [] begun) bytes).count = ap (λ (s : Decoder). s.count) after in
+      let count : length (held_by r.decoder) ≡ length (held_by (state_after (holding [] begun) bytes)) = ap (λ (s : Decoder). length (held_by s)) after in
       let size : r.at ≡ length (put_out (holding [] begun) bytes) = f.size ∙ ap (λ (s : Decoder). length (put_out s bytes)) is in
       omega (arith, room, ended-long begun bytes)
 
   -- What is held at the end is stray.
-  pub ended : (p : Put) → p ≡ put (join (replicate r.decoder.count replacement)) r.at out → Front (shown_text (not begun) (chars bytes)) p.at p.out
+  pub ended : (p : Put) → p ≡ put (join (replicate (length (held_by r.decoder)) replacement)) r.at out → Front (shown_text (not begun) (chars bytes)) p.at p.out
   unfolding put
   ended p g =
-      let left = join (replicate r.decoder.count replacement) in
+      let left = join (replicate (length (held_by r.decoder)) replacement) in
       let whole : shown_text (not begun) (chars bytes) ≡ put_out d bytes ++ left =
-      ended_text begun bytes ∙ ap₂ (λ (s : Decoder) (n : ℕ). put_out s bytes ++ join (replicate n replacement)) (sym is) (sym (ap (λ (s : Decoder). s.count) after)) in
+      ended_text begun bytes ∙ ap₂ (λ (s : Decoder) (n : ℕ). put_out s bytes ++ join (replicate n replacement)) (sym is) (sym (ap (λ (s : Decoder). length (held_by s)) after)) in
       rw (g, whole) (front-put left left f (take-length left) (λ h. omega (arith, h, f.size, length-append (put_out d bytes) left)))

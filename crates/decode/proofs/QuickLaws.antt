@@ -1,5 +1,5 @@
 -- Laws of short pieces whose eight bytes show them. Assumes nothing.
-use Prim.Native.Nat.{ℕ, zero, suc, ◌+◌, ◌-◌, ◌%◌, ◌/◌, ◌≤◌, ◌<◌}
+use Prim.Native.Nat.{ℕ, zero, suc, ◌+◌, ◌-◌, ◌≤◌, ◌<◌}
 use native.Mathlib.Nat.{add-zero}
 use native.Mathlib.Omega.{arith}
 use mathlib.Core.Path.{◌≡◌, refl, sym, ap, ap₂, ◌∙◌}
@@ -8,13 +8,16 @@ use mathlib.Core.Logic.{◌⊎◌, inl, inr, ⊎_elim}
 use mathlib.Core.List.{List, [], ◌∷◌}
 use borrow.Author.Tests.{leb-true, le-leb, lt-leb, ltb-true, lt-ltb, le-ltb, eqb-true}
 use lib.Dec.{leb, ltb, eqb}
-use lib.ListN.{length, take, drop, get_or, length-take, length-drop}
+use lib.ListN.{length, take, drop, set, length-take, length-drop}
 use lib.Seq.{take-take, drop-drop, length-take-le}
+use Rattle.std.specs.Prelude.{Some, None}
+use Rattle.std.specs.Bool.{then_some}
 use Rattle.utf8.specs.Lists.{all, starts_with}
 use Rattle.utf8.proofs.Tests.{either, clash, and_left, and_right}
 use Rattle.utf8.proofs.Starts.{starts_length}
 use Rattle.model.specs.Mark.{mark}
-use Rattle.decode.specs.inner.Words.{bytes_in, is_plain, head_spaced, eight_at, quick_at, all_or_none}
+use Rattle.decode.specs.inner.Words.{is_plain, head_spaced, eight_at, quick_at, shown_at, all_or_none}
+use Rattle.decode.specs.declared.words.Shown.{Shown}
 
 -- ---- the mark in front
 
@@ -36,15 +39,9 @@ mark_three (a ∷ b ∷ c ∷ xs) zero h k = absurd (omega arith)
 mark_three (a ∷ b ∷ c ∷ xs) (suc zero) h k = absurd (omega arith)
 mark_three (a ∷ b ∷ c ∷ xs) (suc (suc zero)) h k = absurd (omega arith)
 
-three_of : (word : ℕ) → bytes_in 3 word ≡ take 3 (bytes_in 8 word)
-unfolding bytes_in
-three_of word = refl
-
-pub mark_word_at : (bytes : List ℕ) (start len word : ℕ) → start + 8 ≤ length bytes → 3 ≤ len → bytes_in 8 word ≡ take 8 (drop start bytes)
-    → starts_with mark (bytes_in 3 word) ≡ starts_with mark (take len (drop start bytes))
-mark_word_at bytes start len word h k e =
-    ap (starts_with mark) (three_of word ∙ ap (take 3) e ∙ take-take 3 8 (drop start bytes) (omega arith))
-    ∙ mark_three (drop start bytes) len (omega (arith, length-drop start bytes)) k
+-- Where three bytes are looked at, it does not matter how many more are.
+pub mark_both : (xs : List ℕ) (n len : ℕ) → 3 ≤ length xs → 3 ≤ n → 3 ≤ len → starts_with mark (take n xs) ≡ starts_with mark (take len xs)
+mark_both xs n len h k l = sym (mark_three xs n h k) ∙ mark_three xs len h l
 
 -- What a mark in front is followed by.
 mark_third : (xs : List ℕ) → starts_with mark (take 3 xs) ≡ true → drop 2 xs ≡ 0x81 ∷ drop 3 xs
@@ -79,21 +76,13 @@ module _ (bytes : List ℕ) (start len : ℕ) (far : start + 16 ≤ length bytes
   behind : (k : ℕ) → drop (start + k) bytes ≡ drop k (drop start bytes)
   behind k = sym (drop-drop k start bytes)
 
-  module _ (word : ℕ) (m : Bool) (is : m ≡ starts_with mark piece) (read : bytes_in 8 word ≡ take 8 (drop (start + cond m 2 0) bytes)) where
-    pub spaced_word : (cond m (word % 256) 0x81 ≡ 0x81) × (bytes_in 8 (cond m (word - 97) word) ≡ eight_at bytes start len)
-    unfolding bytes_in eight_at
-    spaced_word = go m is read
-      where
-        go : (m : Bool) → m ≡ starts_with mark piece → bytes_in 8 word ≡ take 8 (drop (start + cond m 2 0) bytes)
-            → (cond m (word % 256) 0x81 ≡ 0x81) × (bytes_in 8 (cond m (word - 97) word) ≡ eight_at bytes start len)
-        go true q r =
-            let all : bytes_in 8 word ≡ 0x81 ∷ take 7 (drop 3 (drop start bytes)) = r ∙ ap (take 8) (behind 2 ∙ (marked (drop start bytes) len (sym q)).last) in
-            let first : word % 256 ≡ 0x81 = ap (λ (l : List ℕ). get_or l 0 0) all in
-            let rest : bytes_in 7 (word / 256) ≡ take 7 (drop 3 (drop start bytes)) = ap (drop 1) all in
-            let low : (word - 97) % 256 ≡ 0x20 = omega arith in
-            let high : (word - 97) / 256 ≡ word / 256 = omega arith in
-            (first, rw (low, high, rest, ← q, behind 3))
-        go false q r = (refl, r ∙ ap (λ (k : ℕ). take 8 (drop k bytes)) (add-zero start) ∙ rw (← q))
+  -- The eight bytes of the table, where a space is put in place of a mark's last byte.
+  pub spaced_eight : (m : Bool) (eight : List ℕ) → m ≡ starts_with mark piece → eight ≡ take 8 (drop (start + cond m 2 0) bytes) → cond m (set eight 0 0x20) eight ≡ eight_at bytes start len
+  unfolding eight_at
+  spaced_eight true eight q r =
+      let all : eight ≡ 0x81 ∷ take 7 (drop 3 (drop start bytes)) = r ∙ ap (take 8) (behind 2 ∙ (marked (drop start bytes) len (sym q)).last) in
+      rw (all, ← q, behind 3)
+  spaced_eight false eight q r = r ∙ ap (λ (k : ℕ). take 8 (drop k bytes)) (add-zero start) ∙ rw (← q)
 
   module _ (short : len < 10) where
     piece-length : length piece ≡ len
@@ -127,12 +116,6 @@ module _ (bytes : List ℕ) (start len : ℕ) (far : start + 16 ≤ length bytes
             ap (λ (l : List ℕ). 0x20 ∷ l) (ap₂ (λ (n : ℕ) (l : List ℕ). take n (take 7 l)) many (behind 3) ∙ take-take (len - 3) 7 (drop 3 (drop start bytes)) (omega arith) ∙ sym rest)
         go false q small = ap (λ (n : ℕ). take n (take 8 (drop start bytes))) piece-length ∙ take-take len 8 (drop start bytes) (omega (arith, piece-length))
 
-pub bytes_take : (n m word : ℕ) → n ≤ m → bytes_in n word ≡ take n (bytes_in m word)
-unfolding bytes_in
-bytes_take zero m word h = refl
-bytes_take (suc n) zero word h = absurd (omega arith)
-bytes_take (suc n) (suc m) word h = ap (λ (l : List ℕ). word % 256 ∷ l) (bytes_take n m (word / 256) (omega arith))
-
 -- ---- whether they show the piece
 
 module _ (bytes : List ℕ) (start len : ℕ) where
@@ -144,16 +127,34 @@ module _ (bytes : List ℕ) (start len : ℕ) where
   unfolding quick_at
   quick_long h = rw (le-ltb len 10 (omega arith)) (and-false (leb (start + 16) (length bytes)))
 
-  pub quick_word : (far : start + 16 ≤ length bytes) (short : len < 10) (word n : ℕ) → bytes_in 8 word ≡ eight_at bytes start len → n ≡ length (head_spaced (take len (drop start bytes)))
-      → (ltb n 8 && all is_plain (bytes_in n word)) ≡ quick_at bytes start len
+  pub quick_front : (far : start + 16 ≤ length bytes) (short : len < 10) (eight : List ℕ) (n : ℕ) → eight ≡ eight_at bytes start len → n ≡ length (head_spaced (take len (drop start bytes)))
+      → (ltb n 8 && all is_plain (take n eight)) ≡ quick_at bytes start len
   unfolding quick_at
-  quick_word far short word n w long = rw (le-leb (start + 16) (length bytes) far, lt-ltb len 10 short, long) (go (ltb (length (head_spaced (take len (drop start bytes)))) 8) refl)
+  quick_front far short eight n is long = rw (le-leb (start + 16) (length bytes) far, lt-ltb len 10 short, long, is) (go (ltb (length (head_spaced (take len (drop start bytes)))) 8) refl)
     where
-      go : (d : Bool) → ltb (length (head_spaced (take len (drop start bytes)))) 8 ≡ d → (d && all is_plain (bytes_in (length (head_spaced (take len (drop start bytes)))) word)) ≡ (d && all is_plain (head_spaced (take len (drop start bytes))))
-      go true e =
-          let less = ltb-true (length (head_spaced (take len (drop start bytes)))) 8 e in
-          ap (all is_plain) (bytes_take (length (head_spaced (take len (drop start bytes)))) 8 word (omega arith) ∙ ap (take (length (head_spaced (take len (drop start bytes))))) w ∙ eight_front bytes start len far short less)
+      go : (d : Bool) → ltb (length (head_spaced (take len (drop start bytes)))) 8 ≡ d → (d && all is_plain (take (length (head_spaced (take len (drop start bytes)))) (eight_at bytes start len))) ≡ (d && all is_plain (head_spaced (take len (drop start bytes))))
+      go true e = ap (all is_plain) (eight_front bytes start len far short (ltb-true (length (head_spaced (take len (drop start bytes)))) 8 e))
       go false e = refl
+
+  pub none_shown : quick_at bytes start len ≡ false → None ≡ shown_at bytes start len
+  unfolding shown_at
+  none_shown e = rw e
+
+  pub shown_by : (p : Bool) (eight : List ℕ) (n : ℕ) → p ≡ quick_at bytes start len → eight ≡ eight_at bytes start len → n ≡ length (head_spaced (take len (drop start bytes)))
+      → then_some p (record { eight = eight; len = n }) ≡ shown_at bytes start len
+  unfolding shown_at
+  shown_by p eight n e f g = rw (e, f, g)
+
+  -- What a piece is shown as that is one.
+  pub some_shown : (s : Shown) → Some s ≡ shown_at bytes start len
+      → (quick_at bytes start len ≡ true) × (s ≡ record { eight = eight_at bytes start len; len = length (head_spaced (take len (drop start bytes))) })
+  unfolding shown_at
+  some_shown s e = go (quick_at bytes start len) e
+    where
+      go : (d : Bool) → Some s ≡ then_some d (record { eight = eight_at bytes start len; len = length (head_spaced (take len (drop start bytes))) })
+          → (d ≡ true) × (s ≡ record { eight = eight_at bytes start len; len = length (head_spaced (take len (drop start bytes))) })
+      go true e = (refl, cc)
+      go false e = absurd (cc)
 
 -- What it says.
 pub record Quick (bytes : List ℕ) (start len : ℕ) : Type 0 where

@@ -1,17 +1,19 @@
 -- Laws of the state: what it holds, and what a byte and then others leave. Assumes nothing.
-use Prim.Native.Nat.{ℕ, zero, suc, ◌+◌, ◌*◌, ◌-◌, ◌≤◌, ◌<◌}
+use Prim.Native.Nat.{ℕ, zero, suc, ◌+◌, ◌*◌, ◌≤◌}
 use native.Mathlib.Nat.{add-zero}
 use native.Mathlib.Omega.{arith}
-use mathlib.Core.Path.{◌≡◌, refl, sym, ap, ap₂, ◌∙◌}
+use mathlib.Core.Path.{◌≡◌, refl, sym, ap, ◌∙◌}
 use mathlib.Core.Bool.{Bool, true, false, not, ◌&&◌, ◌||◌}
 use mathlib.Core.List.{List, [], ◌∷◌, ◌++◌, append-nil}
-use lib.ListN.{length, take, set, replicate, length-append, replicate-append-replicate}
+use lib.ListN.{length, set, replicate, length-append, replicate-append-replicate}
 use lib.Seq.{sets, set_out}
 use Rattle.utf8.specs.Lists.{is_empty, join}
 use Rattle.utf8.proofs.Lists.{join-append}
 use Rattle.decode.specs.Decode.{replacement}
 use Rattle.decode.specs.declared.Decoder.{Decoder}
-use Rattle.decode.specs.inner.Feeding.{is_open, settled, held_after, held_by, holding, Sound, Put, put, put_out, state_after, fed}
+use Rattle.decode.specs.declared.Held.{Held}
+use Rattle.decode.specs.declared.Held.TheVariants.{Nothing, One, Two, Three}
+use Rattle.decode.specs.inner.Feeding.{is_open, settled, held_after, bytes_of, held_of, held_by, holding, Sound, Put, put, put_out, state_after, fed}
 use Rattle.decode.proofs.FormLaws.{open_short}
 use Rattle.decode.proofs.FedLaws.{held_open_after, settled-append, held-append}
 use Rattle.decode.proofs.TextLaws.{shown_text-append}
@@ -19,34 +21,26 @@ use Rattle.decode.proofs.TextLaws.{shown_text-append}
 -- ---- what a state holds
 
 pub held-holding : (h : List ℕ) (begun : Bool) → is_open h ≡ true → held_by (holding h begun) ≡ h
-unfolding held_by holding
+unfolding holding
 held-holding [] begun e = refl
 held-holding (a ∷ []) begun e = refl
 held-holding (a ∷ b ∷ []) begun e = refl
 held-holding (a ∷ b ∷ c ∷ []) begun e = refl
 held-holding (a ∷ b ∷ c ∷ d ∷ h) begun e = absurd (omega (arith, open_short (a ∷ b ∷ c ∷ d ∷ h) e))
 
-begun-holding : (h : List ℕ) (begun : Bool) → (holding h begun).begun ≡ begun
-unfolding holding
-begun-holding [] begun = refl
-begun-holding (a ∷ []) begun = refl
-begun-holding (a ∷ b ∷ []) begun = refl
-begun-holding (a ∷ b ∷ c ∷ h) begun = refl
+held_again : (h : Held) → h ≡ held_of (bytes_of h)
+held_again Nothing = refl
+held_again (One a) = refl
+held_again (Two a b) = refl
+held_again (Three a b c) = refl
 
-count-holding : (h : List ℕ) (begun : Bool) → length h ≤ 3 → (holding h begun).count ≡ length h
+-- A state is what it holds.
+pub form : (s : Decoder) → s ≡ holding (held_by s) s.begun
 unfolding holding
-count-holding [] begun e = refl
-count-holding (a ∷ []) begun e = refl
-count-holding (a ∷ b ∷ []) begun e = refl
-count-holding (a ∷ b ∷ c ∷ []) begun e = refl
-count-holding (a ∷ b ∷ c ∷ d ∷ h) begun e = absurd (omega arith)
+form s = ap (λ (h : Held). record s { held = h }) (held_again s.held)
 
 pub sound_holding : (h : List ℕ) (begun : Bool) → is_open h ≡ true → Sound (holding h begun)
-sound_holding h begun e =
-    record {
-      unfinished = rw (held-holding h begun e) e;
-      form = sym (ap₂ holding (held-holding h begun e) (begun-holding h begun));
-    }
+sound_holding h begun e = record { unfinished = rw (held-holding h begun e) e }
 
 pub sound_empty : (begun : Bool) → Sound (holding [] begun)
 unfolding is_open
@@ -56,48 +50,9 @@ module _ (s : Decoder) (sound : Sound s) where
   pub held_short : length (held_by s) ≤ 3
   held_short = open_short (held_by s) sound.unfinished
 
-  pub held-count : s.count ≡ length (held_by s)
-  held-count = ap (λ (t : Decoder). t.count) sound.form ∙ count-holding (held_by s) s.begun held_short
-
   pub sound_after : (bytes : List ℕ) → Sound (state_after s bytes)
   unfolding state_after
   sound_after bytes = sound_holding (held_after (held_by s) bytes) _ (held_open_after (held_by s) bytes sound.unfinished)
-
-  pub held_three : (s.count ≡ 0 → ⊥) → (s.count ≡ 1 → ⊥) → (s.count ≡ 2 → ⊥) → held_by s ≡ s.first ∷ s.second ∷ s.third ∷ []
-  unfolding held_by
-  held_three h₀ h₁ h₂ =
-      let all : s.count ≡ 3 = omega (arith, held-count, held_short) in
-      rw all
-
-module _ (s : Decoder) where
-  pub held_none : s.count ≡ 0 → held_by s ≡ []
-  unfolding held_by
-  held_none e = rw e
-
-  pub held_one : s.count ≡ 1 → held_by s ≡ s.first ∷ []
-  unfolding held_by
-  held_one e = rw e
-
-  pub held_two : s.count ≡ 2 → held_by s ≡ s.first ∷ s.second ∷ []
-  unfolding held_by
-  held_two e = rw e
-
-  pub held-some : 0 < s.count → held_by s ≡ s.first ∷ take (s.count - 1) (s.second ∷ s.third ∷ [])
-  unfolding held_by
-  held-some h = go s.count h
-    where
-      go : (n : ℕ) → 0 < n → take n (s.first ∷ s.second ∷ s.third ∷ []) ≡ s.first ∷ take (n - 1) (s.second ∷ s.third ∷ [])
-      go zero h = absurd (omega arith)
-      go (suc n) h = let less : n ≡ suc n - 1 = omega arith in ap {B = List ℕ} (λ (k : ℕ). s.first ∷ take k (s.second ∷ s.third ∷ [])) less
-
-  pub held_more : 1 < s.count → held_by s ≡ s.first ∷ s.second ∷ take (s.count - 2) (s.third ∷ [])
-  unfolding held_by
-  held_more h = go s.count h
-    where
-      go : (n : ℕ) → 1 < n → take n (s.first ∷ s.second ∷ s.third ∷ []) ≡ s.first ∷ s.second ∷ take (n - 2) (s.third ∷ [])
-      go zero h = absurd (omega arith)
-      go (suc zero) h = absurd (omega arith)
-      go (suc (suc n)) h = let less : n ≡ suc (suc n) - 2 = omega arith in ap {B = List ℕ} (λ (k : ℕ). s.first ∷ s.second ∷ take k (s.third ∷ [])) less
 
 -- ---- parts of an output one after the other
 
@@ -160,8 +115,8 @@ module _ (s : Decoder) (sound : Sound s) (xs ys : List ℕ) where
   held_state = held-holding (held_after (held_by s) xs) _ (held_open_after (held_by s) xs sound.unfinished)
 
   begun_state : (state_after s xs).begun ≡ (s.begun || not (is_empty (settled (held_by s) xs)))
-  unfolding state_after
-  begun_state = begun-holding (held_after (held_by s) xs) _
+  unfolding state_after holding
+  begun_state = refl
 
   pub put_out-append : put_out s (xs ++ ys) ≡ put_out s xs ++ put_out (state_after s xs) ys
   unfolding put_out

@@ -1,67 +1,50 @@
 -- Laws of bytes in one number. Assumes nothing.
-use Prim.Native.Nat.{ℕ, zero, suc, ◌+◌, ◌*◌, ◌-◌, ◌%◌, ◌/◌, ◌^◌, ◌≤◌, ◌<◌}
-use native.Mathlib.Nat.{add-zero, pow-suc, mul_assoc, mod-one, mod-lt, mod-eq_of_lt, div-add-mod', add-mul-mod_self_right}
+use Prim.Native.Nat.{ℕ, zero, suc, ◌+◌, ◌*◌, ◌%◌, ◌/◌, ◌^◌, ◌≤◌, ◌<◌}
+use native.Mathlib.Nat.{pow-suc, mul_assoc, mod-one, mod-lt, mod-eq_of_lt, div-add-mod', add-mul-mod_self_right, div-div-eq-div-mul, div-one}
 use native.Mathlib.Omega.{arith}
 use mathlib.Core.Path.{◌≡◌, refl, sym, ap, ap₂, ◌∙◌}
-use mathlib.Core.Bool.{Bool, true, false, not, ◌&&◌}
+use mathlib.Core.Bool.{Bool, true, false, ◌&&◌}
 use mathlib.Core.Logic.{⊎_elim}
-use mathlib.Core.List.{List, [], ◌∷◌, ◌++◌}
-use borrow.Author.Tests.{ltb-true, ltb-false, eqb-true, eqb-false, eq-eqb, ne_eqb}
+use mathlib.Core.List.{List, [], ◌∷◌}
+use borrow.Author.Tests.{ltb-true, lt-ltb, eqb-true, eqb-false, eq-eqb}
 use lib.Dec.{eqb}
-use lib.ListN.{length, take, drop, set, get_or}
-use lib.Seq.{sets, drop-cons, drop-drop, take-add}
+use lib.ListN.{length, take, get_or}
+use Rattle.std.specs.Bool.{MatchBool}
+use Rattle.std.specs.Int.{w64, bytes_low_first, byte_at, from_le_bytes, to_le_bytes}
+use Rattle.std.specs.Str.{IsAscii, IsNotAscii}
+use Rattle.std.proofs.lemmas.Nat.{le_bytes_8}
 use Rattle.utf8.specs.Lists.{all, starts_with}
 use Rattle.utf8.proofs.Tests.{either, and_left, and_right}
 use Rattle.model.specs.Mark.{mark}
-use Rattle.decode.specs.inner.Words.{bytes_in, is_plain}
+use Rattle.decode.specs.inner.Words.{is_plain}
 
--- ---- bytes put together
+-- The n lowest bytes of a number, the lowest first.
+unfoldable pub bytes_in : ℕ → ℕ → List ℕ
+bytes_in zero word = []
+bytes_in (suc n) word = word % 256 ∷ bytes_in n (word / 256)
 
--- A number in front of another.
-bytes-join : (n m low high : ℕ) → low < 256 ^ n → bytes_in (m + n) (low + high * 256 ^ n) ≡ bytes_in n low ++ bytes_in m high
+bytes_take : (n m word : ℕ) → n ≤ m → bytes_in n word ≡ take n (bytes_in m word)
 unfolding bytes_in
-bytes-join zero m low high h =
-    let one : 256 ^ 0 ≡ 1 = refl in
-    ap₂ bytes_in (add-zero m) (omega arith)
-bytes-join (suc n) m low high h =
-    let more : m + suc n ≡ suc (m + n) = omega arith in
-    let p = pow-suc 256 n in
-    let q : high * (256 ^ n * 256) ≡ high * 256 ^ n * 256 = sym (mul_assoc high (256 ^ n) 256) in
-    let here : (low + high * 256 ^ suc n) % 256 ≡ low % 256 = rw (p, q) (omega arith) in
-    let later : (low + high * 256 ^ suc n) / 256 ≡ low / 256 + high * 256 ^ n = rw (p, q) (omega arith) in
-    let less : low / 256 < 256 ^ n = omega (arith, p) in
-    ap (λ (k : ℕ). bytes_in k (low + high * 256 ^ suc n)) more
-    ∙ ap₂ (λ (b w : ℕ). b ∷ bytes_in (m + n) w) here later
-    ∙ ap (λ (l : List ℕ). low % 256 ∷ l) (bytes-join n m (low / 256) high less)
+bytes_take zero m word h = refl
+bytes_take (suc n) zero word h = absurd (omega arith)
+bytes_take (suc n) (suc m) word h = ap (λ (l : List ℕ). word % 256 ∷ l) (bytes_take n m (word / 256) (omega arith))
 
-module _ (xs : List ℕ) (i : ℕ) where
-  pub two_bytes : (a b : ℕ) → i + 2 ≤ length xs → a ≡ get_or xs i 0 → b ≡ get_or xs (i + 1) 0 → a < 256 → b < 256 → bytes_in 2 (a + b * 256) ≡ take 2 (drop i xs)
-  unfolding bytes_in
-  two_bytes a b h p q s t =
-      let one : i + 1 ≡ suc i = omega arith in
-      let first : (a + b * 256) % 256 ≡ a = omega arith in
-      let later : (a + b * 256) / 256 ≡ b = omega arith in
-      let second : b % 256 ≡ b = omega arith in
-      rw (first, later, second, drop-cons xs i 0 (omega arith), drop-cons xs (suc i) 0 (omega arith)) (ap₂ (λ (x y : ℕ). x ∷ y ∷ []) p (q ∙ ap (λ (k : ℕ). get_or xs k 0) one))
+-- the library's word for them
+low_first : (k i word : ℕ) → bytes_in k (word / 256 ^ i) ≡ bytes_low_first i k word
+unfolding bytes_in
+low_first zero i word = refl
+low_first (suc k) i word =
+    let later : word / 256 ^ i / 256 ≡ word / 256 ^ suc i = div-div-eq-div-mul word (256 ^ i) 256 ∙ ap (λ (n : ℕ). word / n) (sym (pow-suc 256 i)) in
+    ap₂ (λ (b : ℕ) (l : List ℕ). b ∷ l) (here i) (ap (bytes_in k) later ∙ low_first k (suc i) word)
+  where
+    here : (i : ℕ) → word / 256 ^ i % 256 ≡ byte_at i word
+    here zero = ap (λ (n : ℕ). n % 256) (div-one word)
+    here (suc i) = refl
 
-  -- Twice as many.
-  pub joined_bytes_lem : (n low high : ℕ) → low < 256 ^ n → bytes_in n low ≡ take n (drop i xs) → bytes_in n high ≡ take n (drop (i + n) xs) → bytes_in (n + n) (low + high * 256 ^ n) ≡ take (n + n) (drop i xs)
-  joined_bytes_lem n low high h p q =
-      bytes-join n n low high h ∙ ap₂ ◌++◌ p (q ∙ ap (take n) (sym (drop-drop n i xs))) ∙ sym (take-add n n (drop i xs))
+bytes_same : (word : ℕ) → bytes_in 8 word ≡ to_le_bytes w64 word
+bytes_same word = ap (bytes_in 8) (sym (div-one word)) ∙ low_first 8 0 word
 
 -- ---- plain bytes
-
-pub high_bit : (word : ℕ) → eqb (word / 128 % 2) 1 ≡ not (is_plain (word % 256))
-high_bit word =
-    ⊎_elim
-    (λ e. ne_eqb (word / 128 % 2) 1 (λ q. absurd (omega (arith, ltb-true (word % 256) 0x80 e))) ∙ sym (ap not e))
-    (λ e. eq-eqb (word / 128 % 2) 1 (omega (arith, ltb-false (word % 256) 0x80 e)) ∙ sym (ap not e))
-    (either (is_plain (word % 256)))
-
--- The last test of a row.
-pub last-plain : (r d : Bool) → r ≡ not d → not r ≡ (d && true)
-last-plain r true e = ap not e
-last-plain r false e = ap not e
 
 plain-zero : (m : ℕ) → all is_plain (bytes_in m 0) ≡ true
 unfolding bytes_in
@@ -109,11 +92,37 @@ power-is (suc (suc (suc (suc (suc (suc zero)))))) h = refl
 power-is (suc (suc (suc (suc (suc (suc (suc zero))))))) h = refl
 power-is (suc (suc (suc (suc (suc (suc (suc (suc n)))))))) h = absurd (omega arith)
 
+-- ---- the test on the number
+
+ascii_each : (bytes : List ℕ) → all is_plain bytes ≡ true → IsAscii bytes
+ascii_each [] e i = omega arith
+ascii_each (b ∷ bytes) e zero = ltb-true b 0x80 (and_left (is_plain b) (all is_plain bytes) e)
+ascii_each (b ∷ bytes) e (suc i) = ascii_each bytes (and_right (is_plain b) (all is_plain bytes) e) i
+
+each_ascii : (bytes : List ℕ) → IsAscii bytes → all is_plain bytes ≡ true
+each_ascii [] h = refl
+each_ascii (b ∷ bytes) h = rw (lt-ltb b 0x80 (h 0)) (each_ascii bytes (λ i. h (suc i)))
+
+ascii_test : (bytes : List ℕ) (r : Bool) → MatchBool r (IsAscii bytes) (IsNotAscii bytes) → r ≡ all is_plain bytes
+ascii_test bytes true h = sym (each_ascii bytes h)
+ascii_test bytes false (i, h) = sym (⊎_elim (λ e. let low = ascii_each bytes e i in absurd (omega arith)) (λ e. e) (either (all is_plain bytes)))
+
+-- What lies above the n lowest bytes of eight is taken away before all are tested.
+pub plain_front : (eight : List ℕ) (n word front : ℕ) (r : Bool) → length eight ≡ 8 → ((i : ℕ) → get_or eight i 0 < 256) → n < 8
+    → word ≡ from_le_bytes w64 eight → front ≡ word % 256 ^ n → MatchBool r (IsAscii (to_le_bytes w64 front)) (IsNotAscii (to_le_bytes w64 front))
+    → r ≡ all is_plain (take n eight)
+plain_front eight n word front r long fits few is e test =
+    ascii_test (to_le_bytes w64 front) r test
+    ∙ ap (all is_plain) (sym (bytes_same front))
+    ∙ ap (λ (w : ℕ). all is_plain (bytes_in 8 w)) e
+    ∙ masked 8 n word (omega arith)
+    ∙ ap (all is_plain) (bytes_take n 8 word (omega arith) ∙ ap (take n) (bytes_same word ∙ le_bytes_8 eight word long fits is))
+
 -- ---- the mark
 
-pub mark_word : (word : ℕ) → eqb (word % 16777216) 8492770 ≡ starts_with mark (bytes_in 3 word)
+mark_in : (word : ℕ) → eqb (word % 16777216) 8492770 ≡ starts_with mark (bytes_in 3 word)
 unfolding bytes_in mark
-mark_word word = ⊎_elim hit miss (either (eqb (word % 16777216) 8492770))
+mark_in word = ⊎_elim hit miss (either (eqb (word % 16777216) 8492770))
   where
     hit : eqb (word % 16777216) 8492770 ≡ true → eqb (word % 16777216) 8492770 ≡ (eqb 0xE2 (word % 256) && (eqb 0x96 (word / 256 % 256) && (eqb 0x81 (word / 256 / 256 % 256) && true)))
     hit e =
@@ -132,16 +141,14 @@ mark_word word = ⊎_elim hit miss (either (eqb (word % 16777216) 8492770))
             let c = eqb-true 0x81 (word / 256 / 256 % 256) (and_left (eqb 0x81 (word / 256 / 256 % 256)) _ (and_right (eqb 0x96 (word / 256 % 256)) _ tail)) in
             absurd (eqb-false (word % 16777216) 8492770 e (omega arith))
 
--- ---- a number put out byte by byte
+-- Three bytes are looked at.
+starts_three : (xs : List ℕ) → starts_with mark (take 3 xs) ≡ starts_with mark xs
+unfolding mark
+starts_three [] = refl
+starts_three (a ∷ []) = refl
+starts_three (a ∷ b ∷ []) = refl
+starts_three (a ∷ b ∷ c ∷ xs) = refl
 
--- One byte, and what is left.
-pub put_next : (k at rest : ℕ) (out : List ℕ) → k < 8 → sets out (at + k) (bytes_in (8 - k) rest) ≡ sets (set out (at + k) (rest % 256)) (at + (k + 1)) (bytes_in (8 - (k + 1)) (rest / 256))
-unfolding bytes_in
-put_next k at rest out h =
-    let one : 8 - k ≡ suc (8 - (k + 1)) = omega arith in
-    let next : at + (k + 1) ≡ suc (at + k) = omega arith in
-    rw (one, next)
-
-pub put_all : (at rest : ℕ) (out : List ℕ) (k : ℕ) → k ≡ 8 → sets out (at + k) (bytes_in (8 - k) rest) ≡ out
-unfolding bytes_in
-put_all at rest out k e = rw e
+pub mark_word : (eight : List ℕ) (word : ℕ) → length eight ≡ 8 → ((i : ℕ) → get_or eight i 0 < 256) → word ≡ from_le_bytes w64 eight → eqb (word % 16777216) 8492770 ≡ starts_with mark eight
+mark_word eight word long fits is =
+    mark_in word ∙ ap (starts_with mark) (bytes_take 3 8 word (omega arith) ∙ ap (take 3) (bytes_same word ∙ le_bytes_8 eight word long fits is)) ∙ starts_three eight

@@ -1,5 +1,5 @@
 -- The call decode.
-use Rattle.std.specs.Prelude.{ℕ, Bool, true, false, not, cond, ◌&&◌, ◌||◌, List, [], ◌∷◌, ◌++◌, ltb, length, drop}
+use Rattle.std.specs.Prelude.{ℕ, Bool, true, false, not, cond, ◌&&◌, ◌||◌, List, [], ◌∷◌, ◌++◌, ltb, length, drop, Option, None, Some}
 use Rattle.utf8.specs.Lists.{any, count, filter, join_map, same, starts_with}
 use Rattle.utf8.specs.Chars.{chars, is_char}
 use Rattle.model.specs.Model.{Model, piece, pieces_of, steps_of}
@@ -9,7 +9,7 @@ use Rattle.model.specs.Check.{model_tests}
 use Rattle.model.specs.declared.Step.{Step}
 use Rattle.model.specs.declared.Step.TheVariants.{Prepend, Replace, CollapseSpaces, Strip}
 use Rattle.model.specs.declared.Metaspace.{Metaspace}
-use Rattle.model.specs.declared.Metaspace.TheVariants.{Absent, Present}
+use Rattle.model.specs.declared.PrependScheme.{PrependScheme}
 use Rattle.model.specs.declared.PrependScheme.TheVariants.{Never, Always, First}
 
 unfoldable pub has_piece : List (List ℕ) → ℕ → Bool
@@ -35,11 +35,15 @@ strays_replaced bytes = join_map (λ (c : List ℕ). cond (is_char c) c replacem
 unfoldable pub marks_spaced : List ℕ → List ℕ
 marks_spaced bytes = join_map (λ (c : List ℕ). cond (same c mark) space c) (chars bytes)
 
-unfoldable pub scheme_prepends : Metaspace → Bool
-scheme_prepends Absent = false
-scheme_prepends (Present Never split) = false
-scheme_prepends (Present Always split) = true
-scheme_prepends (Present First split) = true
+-- The scheme puts a mark in front, of some sections or of all.
+abbrev pub puts_mark : PrependScheme → Bool
+puts_mark Never = false
+puts_mark Always = true
+puts_mark First = true
+
+unfoldable pub scheme_prepends : Option Metaspace → Bool
+scheme_prepends None = false
+scheme_prepends (Some metaspace) = puts_mark metaspace.prepend
 
 unfoldable pub is_prepend : Step → Bool
 is_prepend (Prepend content) = true
@@ -48,7 +52,7 @@ is_prepend (CollapseSpaces content) = false
 is_prepend (Strip left right) = false
 
 -- Rule 12.4: the model puts something in front of texts.
-unfoldable pub prepends_space : Metaspace → List Step → Bool
+unfoldable pub prepends_space : Option Metaspace → List Step → Bool
 prepends_space metaspace steps = scheme_prepends metaspace || any is_prepend steps
 
 -- Without the space in front, where it is to go.

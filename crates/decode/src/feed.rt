@@ -1,129 +1,112 @@
 // A byte fed to the state.
-ghost use Rattle.std.specs.Prelude.{◌≡◌, true, false, ◌&&◌, [], ◌∷◌, ◌++◌, ◌+◌, ◌≤◌, ltb};
-ghost use Rattle.decode.specs.inner.Feeding.{is_open, is_broken, is_idle, held_by, holding, largest, Sound, Fed, fed};
+ghost use Rattle.std.specs.Prelude.{◌≡◌, true, false, [], ◌∷◌, ◌++◌, ◌+◌, ◌≤◌, length};
+ghost use Rattle.utf8.specs.Lists.{is_empty};
+ghost use Rattle.decode.specs.inner.Feeding.{is_open, is_broken, is_idle, bytes_of, held_by, holding, longer, largest, Sound, Fed, fed};
 
 use crate::forms::{lead_width, second_fits};
-use crate::put::{put_settled, put_strays};
-use crate::{Decoder, Progress};
+use crate::put::put_strays;
+use crate::{Decoder, Held, Progress};
 use utf8::chars::is_within;
 
-pub fn empty(begun: bool) -> Decoder
-    ensures { result ≡ holding [] begun }
-{
-    Decoder {
-        count: 0,
-        first: 0,
-        second: 0,
-        third: 0,
-        begun: begun,
+impl Held {
+    pub fn len(self) -> usize
+        ensures { result ≡ length (bytes_of self) }
+    {
+        match self {
+            Held::Nothing => 0,
+            Held::One(_) => 1,
+            Held::Two(..) => 2,
+            Held::Three(..) => 3,
+        }
+    }
+
+    fn is_empty(self) -> bool
+        ensures { result ≡ is_empty (bytes_of self) }
+    {
+        matches!(self, Held::Nothing)
+    }
+
+    // Whether a byte can't stand in one character with those held.
+    fn is_broken(self, b: u8) -> bool
+        requires { is_open (bytes_of self) ≡ true }
+        ensures { result ≡ is_broken (bytes_of self) b }
+    {
+        match self {
+            Held::Nothing => false,
+            Held::One(first) => !second_fits(first, b),
+            Held::Two(..) => !is_within(b, 0x80, 0xBF),
+            Held::Three(..) => !is_within(b, 0x80, 0xBF),
+        }
+    }
+
+    // The byte held behind those that are, where they can still become a character.
+    fn longer(self, b: u8) -> Option<Held>
+        requires unfinished { is_open (bytes_of self) ≡ true }
+        requires unbroken { is_broken (bytes_of self) b ≡ false }
+        ensures { result ≡ longer (bytes_of self) b }
+    {
+        match self {
+            Held::Nothing => (1 < lead_width(b)).then_some(Held::One(b)),
+            Held::One(first) => (2 < lead_width(first)).then_some(Held::Two(first, b)),
+            Held::Two(first, second) => {
+                (3 < lead_width(first)).then_some(Held::Three(first, second, b))
+            }
+            Held::Three(..) => None,
+        }
     }
 }
 
-fn is_broken(s: Decoder, b: u8) -> bool
-    requires { Sound s }
-    ensures { result ≡ is_broken (held_by s) b }
-{
-    if s.count == 0 {
-        return false;
+impl Decoder {
+    #[tactic(auto, unfolding(crate::specs::inner::Feeding::holding))]
+    pub fn new(begun: bool) -> Decoder
+        ensures { result ≡ holding [] begun }
+    {
+        Decoder {
+            held: Held::Nothing,
+            begun,
+        }
     }
-    if s.count == 1 {
-        return !second_fits(s.first, b);
-    }
-    !is_within(b, 0x80, 0xBF)
-}
 
-fn is_open(s: Decoder, b: u8) -> bool
-    requires sound { Sound s }
-    requires unbroken { is_broken (held_by s) b ≡ false }
-    ensures { result ≡ is_open (held_by s ++ (b ∷ [])) }
-{
-    if s.count == 0 {
-        return 1 < lead_width(b);
+    // Whether a whole character can be put out as it is: nothing is held, and the first one is settled.
+    #[tactic(auto, unfolding(crate::specs::inner::Feeding::is_idle))]
+    pub fn is_idle(self) -> bool
+        ensures { result ≡ is_idle self }
+    {
+        self.held.is_empty() && self.begun
     }
-    s.count + 1 < lead_width(s.first)
-}
 
-// The byte held behind those that are.
-fn hold(s: Decoder, b: u8) -> Decoder
-    requires sound { Sound s }
-    requires open_after { is_open (held_by s ++ (b ∷ [])) ≡ true }
-    ensures { result ≡ holding (held_by s ++ (b ∷ [])) s.begun }
-{
-    if s.count == 0 {
-        return Decoder {
-            count: 1,
-            first: b,
-            second: 0,
-            third: 0,
-            begun: s.begun,
-        };
+    // A byte that breaks nothing off. Always inlined: what is no ASCII is decoded a quarter faster so.
+    #[inline(always)]
+    fn take_in(self, b: u8, out: &mut [u8], at: usize) -> Progress
+        requires sound { Sound self }
+        requires unbroken { is_broken (held_by self) b ≡ false }
+        requires at_bound { at + 4 ≤ largest }
+        ensures { ◌≡◌ {A = Fed} (record { progress = result; out = out.new }) (fed self (b ∷ []) at out.old) }
+    {
+        match self.held.longer(b) {
+            Some(held) => Progress {
+                decoder: Decoder {
+                    held,
+                    begun: self.begun,
+                },
+                at,
+            },
+            None => Progress {
+                at: self.put_settled(b, out, at),
+                decoder: Decoder::new(true),
+            },
+        }
     }
-    if s.count == 1 {
-        return Decoder {
-            count: 2,
-            first: s.first,
-            second: b,
-            third: 0,
-            begun: s.begun,
-        };
-    }
-    Decoder {
-        count: 3,
-        first: s.first,
-        second: s.second,
-        third: b,
-        begun: s.begun,
-    }
-}
 
-// A byte that breaks nothing off.
-fn take_in(s: Decoder, b: u8, out: &mut [u8], at: usize) -> Progress
-    requires sound { Sound s }
-    requires unbroken { is_broken (held_by s) b ≡ false }
-    requires at_bound { at + 4 ≤ largest }
-    ensures { ◌≡◌ {A = Fed} (record { progress = result; out = out.new }) (fed s (b ∷ []) at out.old) }
-{
-    if is_open(s, b) {
-        return Progress {
-            decoder: hold(s, b),
-            at: at,
-        };
+    pub fn feed(self, b: u8, out: &mut [u8], at: usize) -> Progress
+        requires sound { Sound self }
+        requires at_bound { at + 13 ≤ largest }
+        ensures { ◌≡◌ {A = Fed} (record { progress = result; out = out.new }) (fed self (b ∷ []) at out.old) }
+    {
+        if !self.held.is_broken(b) {
+            return self.take_in(b, out, at);
+        }
+        let next = put_strays(self.held.len(), out, at);
+        Decoder::new(true).take_in(b, out, next)
     }
-    let end = put_settled(s, b, out, at);
-    Progress {
-        decoder: empty(true),
-        at: end,
-    }
-}
-
-// Whether a whole character can be put out as it is: nothing is held, and the first one is settled.
-pub fn is_idle(s: Decoder) -> bool
-    ensures { result ≡ is_idle s }
-{
-    if s.count != 0 {
-        return false;
-    }
-    s.begun
-}
-
-// Whether the byte is a character that needs no more than that.
-pub fn is_plain(s: Decoder, b: u8) -> bool
-    ensures { result ≡ (is_idle s && ltb b 0x80) }
-{
-    if !is_idle(s) {
-        return false;
-    }
-    b < 0x80
-}
-
-pub fn feed(s: Decoder, b: u8, out: &mut [u8], at: usize) -> Progress
-    requires sound { Sound s }
-    requires at_bound { at + 13 ≤ largest }
-    ensures { ◌≡◌ {A = Fed} (record { progress = result; out = out.new }) (fed s (b ∷ []) at out.old) }
-{
-    if !is_broken(s, b) {
-        return take_in(s, b, out, at);
-    }
-    let next = put_strays(s.count, out, at);
-    take_in(empty(true), b, out, next)
 }

@@ -5,20 +5,15 @@ ghost use Rattle.decode.specs.inner.Feeding.{form_of};
 
 use utf8::chars::is_within;
 
-// The width of the character that a byte begins, 0 where it begins none.
+// The width of the character that a byte begins, 0 where it begins none: no Option, since it is compared with `<` alone.
 pub fn lead_width(first: u8) -> u8
     ensures { result ≡ length (form_of first) }
 {
     match first {
         0x00..=0x7F => 1,
         0xC2..=0xDF => 2,
-        0xE0 => 3,
-        0xE1..=0xEC => 3,
-        0xED => 3,
-        0xEE..=0xEF => 3,
-        0xF0 => 4,
-        0xF1..=0xF3 => 4,
-        0xF4 => 4,
+        0xE0..=0xEF => 3,
+        0xF0..=0xF4 => 4,
         _ => 0,
     }
 }

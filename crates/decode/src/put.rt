@@ -1,63 +1,48 @@
 // Bytes put into the buffer from a place on, as far as there are cells: in a buffer without cells they are only counted.
+// The buffer and the place stay two parameters: a struct that holds a `&mut` asks each function for a clause on its name, and is no plainer.
 ghost use Rattle.std.specs.Prelude.{◌≡◌, false, not, [], ◌∷◌, ◌++◌, ◌+◌, ◌*◌, ◌≤◌, ◌<◌, length, replicate};
-ghost use Rattle.utf8.specs.Lists.{join, same};
-ghost use Rattle.model.specs.Mark.{mark};
+ghost use Rattle.utf8.specs.Lists.{join};
 ghost use Rattle.decode.specs.Decode.{replacement};
 ghost use Rattle.decode.specs.inner.Feeding.{is_open, is_broken, held_by, largest, shown_first, Put, put, Sound};
 
-use crate::Decoder;
+use crate::{Decoder, Held};
+use model::mark::MARK;
 
+// U+FFFD.
+const REPLACEMENT: [u8; 3] = [0xEF, 0xBF, 0xBD];
+
+#[tactic(auto, unfolding(crate::specs::inner::Feeding::put))]
 pub fn put_byte(b: u8, out: &mut [u8], at: usize) -> usize
     requires { at < largest }
     ensures { ◌≡◌ {A = Put} (record { at = result; out = out.new }) (put (b ∷ []) at out.old) }
 {
-    if out.len() <= at {
-        return at + 1;
+    if at < out.len() {
+        out[at] = b;
     }
-    out[at] = b;
     at + 1
 }
 
-fn put_replacement(out: &mut [u8], at: usize) -> usize
-    requires { at + 3 ≤ largest }
-    ensures { ◌≡◌ {A = Put} (record { at = result; out = out.new }) (put replacement at out.old) }
+fn put_bytes(bytes: &[u8], out: &mut [u8], at: usize) -> usize
+    requires { at + length bytes.now ≤ largest }
+    ensures { ◌≡◌ {A = Put} (record { at = result; out = out.new }) (put bytes.now at out.old) }
 {
-    let second = put_byte(0xEF, out, at);
-    let third = put_byte(0xBF, out, second);
-    put_byte(0xBD, out, third)
-}
-
-// U+FFFD for each of some stray bytes.
-pub fn put_strays(count: u8, out: &mut [u8], at: usize) -> usize
-    requires { at + count * 3 ≤ largest }
-    ensures { ◌≡◌ {A = Put} (record { at = result; out = out.new }) (put (join (replicate count replacement)) at out.old) }
-{
-    let mut i = 0;
     let mut next = at;
-    while i < count {
-        next = put_replacement(out, next);
-        i += 1;
+    for b in bytes {
+        next = put_byte(*b, out, next);
     }
     next
 }
 
-// The bytes held, and one more.
-fn put_held(s: Decoder, b: u8, out: &mut [u8], at: usize) -> usize
-    requires sound { Sound s }
-    requires nonzero { 0 < length (held_by s) }
-    requires at_bound { at + 4 ≤ largest }
-    ensures { ◌≡◌ {A = Put} (record { at = result; out = out.new }) (put (held_by s ++ (b ∷ [])) at out.old) }
+// U+FFFD for each of some stray bytes.
+pub fn put_strays(count: usize, out: &mut [u8], at: usize) -> usize
+    requires { at + count * 3 ≤ largest }
+    ensures { ◌≡◌ {A = Put} (record { at = result; out = out.new }) (put (join (replicate count replacement)) at out.old) }
 {
-    let second = put_byte(s.first, out, at);
-    if s.count == 1 {
-        return put_byte(b, out, second);
+    let mut next = at;
+    for _ in 0..count {
+        next = put_bytes(&REPLACEMENT, out, next);
     }
-    let third = put_byte(s.second, out, second);
-    if s.count == 2 {
-        return put_byte(b, out, third);
-    }
-    let fourth = put_byte(s.third, out, third);
-    put_byte(b, out, fourth)
+    next
 }
 
 // A byte that stands for itself: a character of one byte, or a stray one.
@@ -67,7 +52,7 @@ fn put_alone(begun: bool, b: u8, out: &mut [u8], at: usize) -> usize
     ensures { ◌≡◌ {A = Put} (record { at = result; out = out.new }) (put (shown_first (not begun) (b ∷ [])) at out.old) }
 {
     if 0x7F < b {
-        return put_replacement(out, at);
+        return put_bytes(&REPLACEMENT, out, at);
     }
     if begun {
         return put_byte(b, out, at);
@@ -78,38 +63,29 @@ fn put_alone(begun: bool, b: u8, out: &mut [u8], at: usize) -> usize
     put_byte(b, out, at)
 }
 
-fn is_mark(s: Decoder, b: u8) -> bool
-    requires { Sound s }
-    ensures { result ≡ same (held_by s ++ (b ∷ [])) mark }
-{
-    if s.count != 2 {
-        return false;
+impl Decoder {
+    // The character that a byte makes of those held, as it is shown.
+    pub fn put_settled(self, b: u8, out: &mut [u8], at: usize) -> usize
+        requires sound { Sound self }
+        requires unbroken { is_broken (held_by self) b ≡ false }
+        requires closed_after { is_open (held_by self ++ (b ∷ [])) ≡ false }
+        requires at_bound { at + 4 ≤ largest }
+        ensures { ◌≡◌ {A = Put} (record { at = result; out = out.new }) (put (shown_first (not self.begun) (held_by self ++ (b ∷ []))) at out.old) }
+    {
+        match self.held {
+            Held::Nothing => put_alone(self.begun, b, out, at),
+            Held::One(first) => put_bytes(&[first, b], out, at),
+            Held::Two(first, second) => {
+                let character = [first, second, b];
+                if character != MARK {
+                    return put_bytes(&character, out, at);
+                }
+                if self.begun {
+                    return put_byte(0x20, out, at);
+                }
+                at
+            }
+            Held::Three(first, second, third) => put_bytes(&[first, second, third, b], out, at),
+        }
     }
-    if s.first != 0xE2 {
-        return false;
-    }
-    if s.second != 0x96 {
-        return false;
-    }
-    b == 0x81
-}
-
-// The character that a byte makes of those held, as it is shown.
-pub fn put_settled(s: Decoder, b: u8, out: &mut [u8], at: usize) -> usize
-    requires sound { Sound s }
-    requires unbroken { is_broken (held_by s) b ≡ false }
-    requires closed_after { is_open (held_by s ++ (b ∷ [])) ≡ false }
-    requires at_bound { at + 4 ≤ largest }
-    ensures { ◌≡◌ {A = Put} (record { at = result; out = out.new }) (put (shown_first (not s.begun) (held_by s ++ (b ∷ []))) at out.old) }
-{
-    if s.count == 0 {
-        return put_alone(s.begun, b, out, at);
-    }
-    if !is_mark(s, b) {
-        return put_held(s, b, out, at);
-    }
-    if s.begun {
-        return put_byte(0x20, out, at);
-    }
-    at
 }

@@ -1,29 +1,33 @@
 -- A text of bytes is one of bytes after the steps, after the second list and after metaspace. Assumes nothing.
-use Prim.Native.Nat.{ℕ, zero, suc, ◌+◌, ◌-◌, ◌<◌, max}
+use Rattle.std.specs.Prelude.{Option, None, Some}
+use Prim.Native.Nat.{ℕ, zero, suc, ◌-◌, ◌≤◌, ◌<◌, max}
 use native.Mathlib.Omega.{arith}
-use mathlib.Core.Path.{◌≡◌, refl}
-use mathlib.Core.Bool.{Bool, true, false, not, cond, ◌&&◌}
-use mathlib.Core.Option.{Option, none, some}
+use mathlib.Core.Path.{◌≡◌, refl, sym, ◌∙◌, subst}
+use mathlib.Core.Bool.{Bool, true, false, not, cond, ◌&&◌, ◌||◌}
 use mathlib.Core.List.{List, [], ◌∷◌, ◌++◌}
-use lib.Dec.{eqb, leb}
-use lib.ListN.{length, take, drop}
+use lib.Dec.{eqb, leb, ltb}
+use lib.ListN.{length, take, drop, length-drop, take-append-drop}
 use lib.Seq.{slice}
-use Rattle.utf8.specs.Lists.{is_empty, join_map, cut_for, same, starts_with, last_or}
-use Rattle.utf8.specs.Chars.{chars, char_width}
+use Rattle.utf8.specs.Lists.{all, any, Range, within, is_empty, join_map, cut_for, same, starts_with, last_or}
+use Rattle.utf8.specs.Chars.{chars, char_width, char_forms, has_form, width_among, is_char, valid}
 use Rattle.utf8.specs.WhiteSpace.{trim_start, trim_end}
 use Rattle.utf8.proofs.Trim.{trim_start_trimmed, trim_end_trimmed}
-use Rattle.model.specs.Model.{TokenList, contents, step_string}
+use Rattle.model.specs.Model.{TokenList, contents, step_string, spans_of}
+use Rattle.model.specs.Check.{step_spans, no_text, bad_step}
+use Rattle.utf8.proofs.Tests.{and_left, and_right, or_left, or_right, within-high}
+use Rattle.utf8.proofs.Places.{any_append}
+use borrow.Author.Tests.{not-false, ltb-true}
 use Rattle.model.specs.Mark.{mark}
 use Rattle.model.specs.declared.Span.{Span}
 use Rattle.model.specs.declared.Step.{Step}
 use Rattle.model.specs.declared.Step.TheVariants.{Prepend, Replace, CollapseSpaces, Strip}
 use Rattle.model.specs.declared.Metaspace.{Metaspace}
-use Rattle.model.specs.declared.Metaspace.TheVariants.{Absent, Present}
 use Rattle.normalise.specs.Steps.{prepended, occurrences, replaced, space_run, collapsed, stripped, applied, outputs_of}
 use Rattle.normalise.specs.Spaces.{spaces_marked, scheme_prepends, mark_prepended, metaspace_output, metaspaced}
 use Rattle.units.specs.declared.RawPrepend.{RawPrepend}
 use Rattle.units.proofs.AdjacencyLaws.{Small}
-use Rattle.sections.specs.Matches.{Match, first_match}
+use Rattle.sections.specs.declared.Match.{Match}
+use Rattle.sections.specs.Matches.{first_match}
 use Rattle.sections.specs.Sections.{Item, token, plain, taken_apart, stop_before, start_after, Section, bytes_of}
 use Rattle.sections.specs.SecondList.{NormalPart, normal_part_of, normal_parts_around, normal_parts_for, normal_parts}
 use Rattle.stretches.specs.Stretches.{Stretch, stretch}
@@ -80,6 +84,62 @@ mark-bytes : Bytes mark
 unfolding mark
 mark-bytes = one_more {x = 0xE2} (omega arith) (one_more {x = 0x96} (omega arith) (one_more {x = 0x81} (omega arith) none_left))
 
+-- ---- what is valid UTF-8 is of bytes
+
+abbrev small_form : List Range → Bool
+small_form form = all (λ (range : Range). ltb range.1 256) form
+
+form-bytes : (form : List Range) (text : List ℕ) → small_form form ≡ true → has_form form text ≡ true → Bytes (take (length form) text)
+form-bytes [] text r h = none_left
+form-bytes (range ∷ form) [] r h = none_left
+form-bytes (range ∷ form) (b ∷ text) r h =
+    let high : b ≤ range.1 = within-high range b (and_left (within range b) (has_form form text) h) in
+    let small : range.1 < 256 = ltb-true range.1 256 (and_left (ltb range.1 256) (small_form form) r) in
+    one_more (omega arith) (form-bytes form text (and_right (ltb range.1 256) (small_form form) r) (and_right (within range b) (has_form form text) h))
+
+width-bytes : (forms : List (List Range)) (text : List ℕ) → all small_form forms ≡ true → Bytes (take (width_among forms text) text)
+width-bytes [] text r = none_left
+width-bytes (form ∷ forms) text r = go (has_form form text) refl (width-bytes forms text (and_right (small_form form) (all small_form forms) r))
+  where
+    go : (b : Bool) → has_form form text ≡ b → Bytes (take (width_among forms text) text) → Bytes (take (cond b (length form) (width_among forms text)) text)
+    go true e others = form-bytes form text (and_left (small_form form) (all small_form forms) r) e
+    go false e others = others
+
+char-bytes : (text : List ℕ) → Bytes (take (char_width text) text)
+unfolding char_width char_forms
+char-bytes text = width-bytes char_forms text refl
+
+single : (x w : ℕ) → 0 < w → Bytes (take w (x ∷ [])) → Bytes (x ∷ [])
+single x zero h b = absurd (omega arith)
+single x (suc w) h (one_more p ps) = one_more p none_left
+
+lone : (text : List ℕ) → is_char (take 1 text) ≡ true → Bytes (take 1 text)
+unfolding is_char
+lone [] h = none_left
+lone (x ∷ text) h = single x (char_width (x ∷ [])) (ltb-true 0 (char_width (x ∷ [])) h) (char-bytes (x ∷ []))
+
+piece-bytes : (text : List ℕ) → is_char (take (max 1 (char_width text)) text) ≡ true → Bytes (take (max 1 (char_width text)) text)
+piece-bytes text = go (char_width text) refl
+  where
+    go : (w : ℕ) → char_width text ≡ w → is_char (take (max 1 w) text) ≡ true → Bytes (take (max 1 w) text)
+    go zero z = let one : max 1 0 ≡ 1 = omega arith in rw one (lone text)
+    go (suc k) z = let same : max 1 (suc k) ≡ suc k = omega arith in rw same (λ h. subst (λ (n : ℕ). Bytes (take n text)) z (char-bytes text))
+
+text-bytes : (turns : ℕ) (text : List ℕ) → length text ≤ turns → all is_char (cut_for turns char_width text) ≡ true → Bytes text
+text-bytes zero [] h e = none_left
+text-bytes zero (x ∷ text) h e = absurd (omega arith)
+text-bytes (suc turns) [] h e = none_left
+text-bytes (suc turns) (x ∷ text) h e =
+    let w = max 1 (char_width (x ∷ text)) in
+    let less : length (drop w (x ∷ text)) ≤ turns = omega (arith, length-drop w (x ∷ text)) in
+    subst Bytes (take-append-drop w (x ∷ text))
+    (each_append (piece-bytes (x ∷ text) (and_left (is_char (take w (x ∷ text))) (all is_char (cut_for turns char_width (drop w (x ∷ text)))) e))
+    (text-bytes turns (drop w (x ∷ text)) less (and_right (is_char (take w (x ∷ text))) (all is_char (cut_for turns char_width (drop w (x ∷ text)))) e)))
+
+pub valid_bytes : (text : List ℕ) → valid text ≡ true → Bytes text
+unfolding valid chars
+valid_bytes text e = text-bytes (length text) text (omega arith) e
+
 -- ---- the steps
 
 module _ {content : List ℕ} (c : Bytes content) where
@@ -113,21 +173,25 @@ stripped-bytes left right {text} h =
     let rest = on_cond Bytes left (trim_start-bytes h) h in
     on_cond Bytes right (trim_end-bytes rest) rest
 
-module _ {bytes : List ℕ} (b : Bytes bytes) where
-  string_bytes : (span : Span) → Bytes (step_string bytes span)
-  unfolding step_string
-  string_bytes span = each_slice span.place (span.place + span.len) b
+module _ (bytes : List ℕ) where
+  string_bytes : (span : Span) → no_text bytes span ≡ false → Bytes (step_string bytes span)
+  unfolding no_text
+  string_bytes span e = valid_bytes (step_string bytes span) (not-false (valid (step_string bytes span)) e)
 
-  pub applied-bytes : (step : Step) {text : List ℕ} → Bytes text → Bytes (applied bytes step text)
-  unfolding applied
-  applied-bytes (Prepend content) h = prepended-bytes (string_bytes content) h
-  applied-bytes (Replace pattern content) h = replaced-bytes (string_bytes content) (step_string bytes pattern) h
-  applied-bytes (CollapseSpaces content) h = collapsed-bytes (string_bytes content) h
-  applied-bytes (Strip left right) h = stripped-bytes left right h
+  pub applied-bytes : (step : Step) → any (no_text bytes) (spans_of step) ≡ false → {text : List ℕ} → Bytes text → Bytes (applied bytes step text)
+  unfolding applied spans_of
+  applied-bytes (Prepend content) e h = prepended-bytes (string_bytes content (or_left (no_text bytes content) false e)) h
+  applied-bytes (Replace pattern content) e h =
+      replaced-bytes (string_bytes content (or_left (no_text bytes content) false (or_right (no_text bytes pattern) (no_text bytes content || false) e))) (step_string bytes pattern) h
+  applied-bytes (CollapseSpaces content) e h = collapsed-bytes (string_bytes content (or_left (no_text bytes content) false e)) h
+  applied-bytes (Strip left right) e h = stripped-bytes left right h
 
-  pub stepped-bytes : (steps : List Step) {text : List ℕ} → Bytes text → Bytes (last_or text (outputs_of bytes steps text))
-  stepped-bytes [] h = h
-  stepped-bytes (step ∷ steps) h = stepped-bytes steps (applied-bytes step h)
+  pub stepped-bytes : (steps : List Step) → any (no_text bytes) (join_map spans_of steps) ≡ false → {text : List ℕ} → Bytes text → Bytes (last_or text (outputs_of bytes steps text))
+  stepped-bytes [] e h = h
+  stepped-bytes (step ∷ steps) e h =
+      let both = sym (any_append (no_text bytes) (spans_of step) (join_map spans_of steps)) ∙ e in
+      stepped-bytes steps (or_right (any (no_text bytes) (spans_of step)) (any (no_text bytes) (join_map spans_of steps)) both)
+      (applied-bytes step (or_left (any (no_text bytes) (spans_of step)) (any (no_text bytes) (join_map spans_of steps)) both) h)
 
 -- ---- metaspace
 
@@ -135,11 +199,11 @@ marked_bytes : {text : List ℕ} → Bytes text → Bytes (spaces_marked text)
 unfolding spaces_marked
 marked_bytes h = each_joined (λ (b : ℕ). cond (eqb b 0x20) mark (b ∷ [])) (λ b q. on_cond Bytes (eqb b 0x20) mark-bytes (one_more q none_left)) h
 
-pub metaspaced-bytes : (metaspace : Metaspace) (first : Bool) {text : List ℕ} → Bytes text → Bytes (metaspaced metaspace first text)
+pub metaspaced-bytes : (metaspace : Option Metaspace) (first : Bool) {text : List ℕ} → Bytes text → Bytes (metaspaced metaspace first text)
 unfolding metaspaced metaspace_output mark_prepended
-metaspaced-bytes Absent first h = h
-metaspaced-bytes (Present scheme split) first {text} h =
-    on_cond Bytes (scheme_prepends scheme first && not (is_empty (spaces_marked text)) && not (starts_with mark (spaces_marked text))) (each_append mark-bytes (marked_bytes h)) (marked_bytes h)
+metaspaced-bytes None first h = h
+metaspaced-bytes (Some m) first {text} h =
+    on_cond Bytes (scheme_prepends m.prepend first && not (is_empty (spaces_marked text)) && not (starts_with mark (spaces_marked text))) (each_append mark-bytes (marked_bytes h)) (marked_bytes h)
 
 -- ---- items
 
@@ -165,8 +229,8 @@ parts_for zero t first h = none_left
 parts_for (suc turns) t first {text} h = go (first_match (contents t) 0 text) (λ rest b. parts_for turns t false {text = rest} b)
   where
     go : (found : Option Match) → ((rest : List ℕ) → Bytes rest → Each (Between PartOfBytes) (normal_parts_for turns t false rest)) → Each (Between PartOfBytes) (normal_parts_around t (normal_parts_for turns t false) first text found)
-    go none go_on = part_bytes first h
-    go (some match) go_on =
+    go None go_on = part_bytes first h
+    go (Some match) go_on =
         each_append (part_bytes first (each_take (stop_before t text 0 match) h)) (one_more token-is (go_on (drop (start_after t text match) text) (each_drop (start_after t text match) h)))
 
 stretch-bytes : (virtual raw : Bool) {bytes : List ℕ} → Bytes bytes → Each OfBytes (stretch bytes virtual raw)
@@ -174,21 +238,21 @@ unfolding stretch
 stretch-bytes virtual raw {bytes} h = on_cond (Each OfBytes) (is_empty bytes) none_left (one_more (bytes-fine (bytes_small h)) none_left)
 
 -- A section of bytes comes to stretches of bytes,
-pub stretches_bytes : (n : Normal) → Small n.step_bytes → (opening : Bool) {section : List ℕ} → Bytes section → Each OfBytes (stretches_in n opening section)
-unfolding stretches_in parts_in part_stretch normal_parts
+pub stretches_bytes : (n : Normal) → bad_step n.step_bytes n.steps ≡ false → (opening : Bool) {section : List ℕ} → Bytes section → Each OfBytes (stretches_in n opening section)
+unfolding stretches_in parts_in part_stretch normal_parts bad_step step_spans
 stretches_bytes n steps opening {section} h =
     taken_bytes (part_stretch n.metaspace) (λ part p. stretch-bytes false false (metaspaced-bytes n.metaspace part.first p))
-    (parts_for (length (last_or section (outputs_of n.step_bytes n.steps section))) n.second opening (stepped-bytes (small_bytes n.step_bytes steps) n.steps h))
+    (parts_for (length (last_or section (outputs_of n.step_bytes n.steps section))) n.second opening (stepped-bytes n.step_bytes n.steps steps h))
 
 any_section : (item : Item Section) → Between (λ (section : Section). section ≡ section) item
 any_section (token id) = token-is
 any_section (plain section) = plain-is refl
 
 -- and so do the sections of a text, off the raw path
-pub normal_bytes : (n : Normal) (text : List ℕ) → Small n.step_bytes → Small text → (items : List (Item Section)) → Each OfBytes (taken_apart (section_stretches n text) items)
+pub normal_bytes : (n : Normal) (text : List ℕ) → bad_step n.step_bytes n.steps ≡ false → Small text → (items : List (Item Section)) → Each OfBytes (taken_apart (section_stretches (stretches_in n) text) items)
 unfolding bytes_of
 normal_bytes n text steps small items =
-    taken_bytes {P = λ (section : Section). section ≡ section} (section_stretches n text)
+    taken_bytes {P = λ (section : Section). section ≡ section} (section_stretches (stretches_in n) text)
     (λ section p. stretches_bytes n steps section.opening (each_slice section.start section.stop (small_bytes text small))) (each any_section items)
 
 -- and on it.

@@ -1,19 +1,16 @@
 -- Laws of a part of a normalized section: what metaspace leaves of it, by what putting it into a buffer gave. Assumes nothing.
+use Rattle.std.specs.Prelude.{Option, Some, None}
 use Prim.Native.Nat.{ℕ, ◌≤◌, ◌<◌, min}
 use native.Mathlib.Omega.{arith}
 use mathlib.Core.Path.{◌≡◌, refl, sym, ap, ◌∙◌}
 use mathlib.Core.Bool.{Bool, true, false, cond}
 use mathlib.Core.List.{List, ◌++◌}
-use mathlib.Core.Option.{Option}
 use borrow.Author.Tests.{leb-true, leb-false, lt-ltb, le-ltb}
 use lib.Dec.{leb}
 use lib.ListN.{length, take, drop}
 use lib.Seq.{slice, take_at}
 use Rattle.model.specs.declared.Metaspace.{Metaspace}
-use Rattle.model.specs.declared.Metaspace.TheVariants.{Absent, Present}
 use Rattle.model.specs.declared.PrependScheme.{PrependScheme}
-use Rattle.normalise.specs.declared.Length.{Length}
-use Rattle.normalise.specs.declared.Length.TheVariants.{Fits, TooLong}
 use Rattle.normalise.specs.Normalise.{outgrows}
 use Rattle.normalise.specs.Spaces.{spaces_marked, mark_prepended, scheme_prepends, metaspace_output, metaspaced}
 use Rattle.normalise.specs.inner.Fit.{Put, put}
@@ -22,38 +19,37 @@ use Rattle.merge.specs.declared.Symbols.{Symbols}
 use Rattle.stretches.specs.Stretches.{stretch}
 use Rattle.stretches.specs.inner.Tables.{Tables}
 use Rattle.stretches.specs.inner.Parts.{parts_symbols, parts_writer}
-use Rattle.encode.specs.declared.Counted.{Counted}
-use Rattle.encode.specs.inner.Passes.{counted, unless_long}
+use Rattle.encode.specs.inner.Passes.{counted, unless_long, Leaves}
 
 -- ---- an output put into a buffer that has the room
 
-module _ (result : List ℕ) (room : ℕ) (out : List ℕ) (long : room ≤ length out) {l : Length} {after : List ℕ} (is : ◌≡◌ {A = Put} (record { length = l; out = after }) (put result room out)) where
-  pub put_short : {n : ℕ} → l ≡ Fits n → (length result ≤ room) × (take n after ≡ result)
+module _ (result : List ℕ) (room : ℕ) (out : List ℕ) (long : room ≤ length out) {l : Option ℕ} {after : List ℕ} (is : ◌≡◌ {A = Put} (record { length = l; out = after }) (put result room out)) where
+  pub put_short : {n : ℕ} → l ≡ Some n → (length result ≤ room) × (take n after ≡ result)
   unfolding put
   put_short {n} e = go (leb (length result) (min room (length out))) refl is
     where
       go : (b : Bool) → leb (length result) (min room (length out)) ≡ b
-          → ◌≡◌ {A = Put} (record { length = l; out = after }) (cond b (record { length = Fits (length result); out = result ++ drop (length result) out }) (record { length = TooLong; out = out }))
+          → ◌≡◌ {A = Put} (record { length = l; out = after }) (cond b (record { length = Some (length result); out = result ++ drop (length result) out }) (record { length = None; out = out }))
           → (length result ≤ room) × (take n after ≡ result)
       go true t q =
           let h : length result ≤ min room (length out) = leb-true (length result) (min room (length out)) t in
-          let same : Fits n ≡ Fits (length result) = sym e ∙ ap (λ (p : Put). p.length) q in
+          let same : Some n ≡ Some (length result) = sym e ∙ ap (λ (p : Put). p.length) q in
           let size : n ≡ length result = cc in
           (omega arith, rw (ap (λ (p : Put). p.out) q) (take_at result (drop (length result) out) n (sym size)))
       go false t q =
-          let same : Fits n ≡ TooLong = sym e ∙ ap (λ (p : Put). p.length) q in
+          let same : Some n ≡ None = sym e ∙ ap (λ (p : Put). p.length) q in
           let z : ◌≡◌ {A = ℕ} 0 1 = cc in
           absurd (omega arith)
 
-  pub put-long : l ≡ TooLong → room < length result
+  pub put-long : l ≡ None → room < length result
   unfolding put
   put-long e = go (leb (length result) (min room (length out))) refl is
     where
       go : (b : Bool) → leb (length result) (min room (length out)) ≡ b
-          → ◌≡◌ {A = Put} (record { length = l; out = after }) (cond b (record { length = Fits (length result); out = result ++ drop (length result) out }) (record { length = TooLong; out = out }))
+          → ◌≡◌ {A = Put} (record { length = l; out = after }) (cond b (record { length = Some (length result); out = result ++ drop (length result) out }) (record { length = None; out = out }))
           → room < length result
       go true t q =
-          let same : TooLong ≡ Fits (length result) = sym e ∙ ap (λ (p : Put). p.length) q in
+          let same : None ≡ Some (length result) = sym e ∙ ap (λ (p : Put). p.length) q in
           let z : ◌≡◌ {A = ℕ} 0 1 = cc in
           absurd (omega arith)
       go false t q = let h : min room (length out) < length result = leb-false (length result) (min room (length out)) t in omega arith
@@ -64,40 +60,35 @@ module _ (result : List ℕ) (room : ℕ) (out : List ℕ) (long : room ≤ leng
 abbrev pub marked : PrependScheme → Bool → List ℕ → List ℕ
 marked prepend first bytes = mark_prepended (scheme_prepends prepend first) (spaces_marked bytes)
 
--- Whether its output is too long, and what it leaves.
-pub record Leaves (metaspace : Metaspace) (first : Bool) (bytes : List ℕ) (room : ℕ) (cur : List ℕ) : Type 0 where
-  pub short : outgrows (metaspace_output metaspace first bytes) room ≡ false
-  pub left : cur ≡ metaspaced metaspace first bytes
-
-module _ (metaspace : Metaspace) (first : Bool) (bytes : List ℕ) (room : ℕ) where
-  pub leaves_absent : metaspace ≡ Absent → Leaves metaspace first bytes room bytes
+module _ (metaspace : Option Metaspace) (first : Bool) (bytes : List ℕ) (room : ℕ) where
+  pub leaves_absent : metaspace ≡ None → Leaves metaspace first bytes room bytes
   unfolding metaspace_output metaspaced outgrows
-  leaves_absent e = record { short = rw e; left = rw e }
+  leaves_absent e = record { short = rw e; is = rw e }
 
-  module _ {prepend : PrependScheme} {split : Bool} (e : metaspace ≡ Present prepend split) (out : List ℕ) (long : room ≤ length out) {l : Length} {after : List ℕ}
-      (is : ◌≡◌ {A = Put} (record { length = l; out = after }) (put (marked prepend first bytes) room out)) where
-    pub leaves_present : {n : ℕ} {cur : List ℕ} → l ≡ Fits n → cur ≡ slice 0 n after → Leaves metaspace first bytes room cur
+  module _ {m : Metaspace} (e : metaspace ≡ Some m) (out : List ℕ) (long : room ≤ length out) {l : Option ℕ} {after : List ℕ}
+      (is : ◌≡◌ {A = Put} (record { length = l; out = after }) (put (marked m.prepend first bytes) room out)) where
+    pub leaves_present : {n : ℕ} {cur : List ℕ} → l ≡ Some n → cur ≡ slice 0 n after → Leaves metaspace first bytes room cur
     unfolding metaspace_output metaspaced outgrows
     leaves_present f c =
-        let p = put_short (marked prepend first bytes) room out long is f in
-        record { short = rw (e, le-ltb room (length (marked prepend first bytes)) p.0); left = rw e (c ∙ p.1) }
+        let p = put_short (marked m.prepend first bytes) room out long is f in
+        record { short = rw (e, le-ltb room (length (marked m.prepend first bytes)) p.0); is = rw e (c ∙ p.1) }
 
-    pub too_long : l ≡ TooLong → outgrows (metaspace_output metaspace first bytes) room ≡ true
+    pub too_long : l ≡ None → outgrows (metaspace_output metaspace first bytes) room ≡ true
     unfolding metaspace_output outgrows
-    too_long f = rw (e, lt-ltb room (length (marked prepend first bytes)) (put-long (marked prepend first bytes) room out long is f))
+    too_long f = rw (e, lt-ltb room (length (marked m.prepend first bytes)) (put-long (marked m.prepend first bytes) room out long is f))
 
 -- ---- the two passes on a part
 
-module _ {metaspace : Metaspace} {first : Bool} {bytes : List ℕ} {room : ℕ} {cur : List ℕ} (l : Leaves metaspace first bytes room cur) where
-  pub part-counted : (own : List ℕ → Option ℕ) (fallback : List ℕ) (cells : ℕ) {s : Symbols} {r : Counted} → s ≡ parts_symbols own fallback (stretch cur false false) cells → r ≡ counted false s
-      → r ≡ counted (outgrows (metaspace_output metaspace first bytes) room) (parts_symbols own fallback (stretch (metaspaced metaspace first bytes) false false) cells)
-  part-counted own fallback cells e f = f ∙ rw (l.short, ← l.left, ← e)
+module _ {metaspace : Option Metaspace} {first : Bool} {bytes : List ℕ} {room : ℕ} {cur : List ℕ} (l : Leaves metaspace first bytes room cur) where
+  pub part-counted : (own : List ℕ → Option ℕ) (fallback : List ℕ) (cells : ℕ) {s : Symbols} → s ≡ parts_symbols own fallback (stretch cur false false) cells
+      → Some s ≡ counted (outgrows (metaspace_output metaspace first bytes) room) (parts_symbols own fallback (stretch (metaspaced metaspace first bytes) false false) cells)
+  part-counted own fallback cells e = rw (l.short, ← l.is, ← e)
 
   pub part-written : (t : Tables) (out : List ℕ) {done : Merged} → done ≡ parts_writer t (stretch cur false false) out
       → done ≡ unless_long (outgrows (metaspace_output metaspace first bytes) room) (parts_writer t (stretch (metaspaced metaspace first bytes) false false) out) out
-  part-written t out e = rw (l.short, ← l.left, ← e)
+  part-written t out e = rw (l.short, ← l.is, ← e)
 
-module _ (metaspace : Metaspace) (first : Bool) (bytes : List ℕ) (room : ℕ) (long : outgrows (metaspace_output metaspace first bytes) room ≡ true) where
+module _ (metaspace : Option Metaspace) (first : Bool) (bytes : List ℕ) (room : ℕ) (long : outgrows (metaspace_output metaspace first bytes) room ≡ true) where
   pub part_uncounted : (s : Symbols) → counted true s ≡ counted (outgrows (metaspace_output metaspace first bytes) room) s
   part_uncounted s = rw long
 

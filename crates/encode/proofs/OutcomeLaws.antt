@@ -1,7 +1,8 @@
 -- Laws of what encoding leaves: by the two passes, and by an accepted model with its derived rows. Assumes nothing.
 use Prim.Native.Nat.{ℕ, ◌+◌, ◌-◌, ◌≤◌, ◌<◌, min}
 use native.Mathlib.Omega.{arith}
-use mathlib.Core.Path.{◌≡◌, sym, ap, ap₂, ◌∙◌}
+use Rattle.std.specs.Prelude.{Option, Some, None}
+use mathlib.Core.Path.{◌≡◌, sym, ap, ◌∙◌}
 use mathlib.Core.Bool.{Bool, false, cond}
 use mathlib.Core.Logic.{⊎_elim}
 use mathlib.Core.List.{List, ◌++◌, map}
@@ -16,7 +17,6 @@ use Rattle.model.specs.Model.{Model, TokenList}
 use Rattle.model.specs.declared.Answer.{Answer}
 use Rattle.units.specs.Kinds.{raw_path}
 use Rattle.units.specs.declared.RawPrepend.{RawPrepend}
-use Rattle.units.specs.declared.RawPath.TheVariants.{Present}
 use Rattle.units.proofs.AdjacencyLaws.{Small}
 use Rattle.merge.specs.inner.Turns.{Merged}
 use Rattle.merge.specs.declared.Symbols.{Symbols}
@@ -29,16 +29,14 @@ use Rattle.stretches.specs.inner.Parts.{parts_symbols, parts_writer}
 use Rattle.stretches.proofs.WriterLaws.{Each}
 use Rattle.stretches.proofs.PartLaws.{keeps_parts}
 use Rattle.stretches.proofs.DerivedLaws.{tables_with, tables_of, OfBytes, parts-counted, parts-written}
-use Rattle.encode.specs.declared.Counted.{Counted}
-use Rattle.encode.specs.declared.Counted.TheVariants.{Counts, TooLong}
 use Rattle.encode.specs.Parts.{raw_stretch, stretches_of, parts}
 use Rattle.encode.specs.Encode.{encoded_ids, drops, starting_count}
-use Rattle.encode.specs.inner.Passes.{parts_outcome, counted, item_outputs, Normal, section_stretches, section_outputs, normal_outcome}
+use Rattle.encode.specs.inner.Passes.{parts_outcome, counted, text_stretches, text_outputs, text_outcome}
 use Rattle.encode.proofs.ItemLaws.{counts_found, long_found}
 use Rattle.encode.proofs.BytesLaws.{raw-bytes}
 
 module _ (t : Tables) (parts : List (Item Stretch)) (out : List ℕ) where
-  module _ {s : Symbols} (counted : s ≡ parts_symbols (own_in t.index t.piece_bytes t.piece_offsets t.lookup) t.fallback parts (length out + 1)) where
+  module _ {s : Symbols} (counted : s ≡ parts_symbols (own_in t) t.fallback parts (length out + 1)) where
     pub outcome_short : {r : Answer} → r ≡ refused 12 0 → length out < s.count → ◌≡◌ {A = Outcome} (record { answer = r; out = out }) (parts_outcome t parts out)
     unfolding parts_outcome
     outcome_short e h = rw (← counted, lt-ltb (length out) s.count h, e)
@@ -59,37 +57,37 @@ module _ (t : Tables) (parts : List (Item Stretch)) (out : List ℕ) where
         omega
         (arith, ap length e, length-append (take k middle) (zeros (length middle - k)), length-take k middle, length-replicate {A = ℕ} (length middle - k) 0, written_inside, ap (λ (d : Merged). length d.ids) written, (keeps_parts t parts).long out)
 
--- A text that is normalized, by what the first pass found.
-module _ (t : Tables) (n : Normal) (first : TokenList) (text : List ℕ) (room : ℕ) (out : List ℕ) where
+-- A text, by what the first pass found.
+module _ (t : Tables) (outputs : Bool → List ℕ → List (List ℕ)) (stretches : Bool → List ℕ → List (Item Stretch)) (first : TokenList) (text : List ℕ) (room : ℕ) (out : List ℕ) where
   abbrev long : Bool
-  long = outgrows (join_map (item_outputs (section_outputs n text)) (sections first text)) room
+  long = outgrows (text_outputs outputs first text) room
 
   abbrev parts_of : List (Item Stretch)
-  parts_of = taken_apart (section_stretches n text) (sections first text)
+  parts_of = text_stretches stretches first text
 
   abbrev symbols : Symbols
-  symbols = parts_symbols (own_in t.index t.piece_bytes t.piece_offsets t.lookup) t.fallback parts_of (length out + 1)
+  symbols = parts_symbols (own_in t) t.fallback parts_of (length out + 1)
 
-  module _ {r : Counted} (e : r ≡ counted long symbols) where
-    pub normal_long : r ≡ TooLong → {x : Answer} → x ≡ refused 11 0 → ◌≡◌ {A = Outcome} (record { answer = x; out = out }) (normal_outcome t n first text room out)
-    unfolding normal_outcome
-    normal_long f g = rw (long_found long symbols (sym f ∙ e), g)
+  module _ {r : Option Symbols} (e : r ≡ counted long symbols) where
+    pub text_long : r ≡ None → {x : Answer} → x ≡ refused 11 0 → ◌≡◌ {A = Outcome} (record { answer = x; out = out }) (text_outcome t outputs stretches first text room out)
+    unfolding text_outcome
+    text_long f g = rw (long_found long symbols (sym f ∙ e), g)
 
-    module _ {c d : ℕ} (f : r ≡ Counts c d) where
-      pub normal_fine : long ≡ false
-      normal_fine = (counts_found long symbols (sym f ∙ e)).0
+    module _ {s : Symbols} (f : r ≡ Some s) where
+      pub text_fine : long ≡ false
+      text_fine = (counts_found long symbols (sym f ∙ e)).0
 
-      told : ◌≡◌ {A = Symbols} (record { count = c; drops = d }) symbols
-      told = let h = counts_found long symbols (sym f ∙ e) in ap₂ {C = Symbols} (λ (n : ℕ) (m : ℕ). record { count = n; drops = m }) h.1 h.2
+      told : s ≡ symbols
+      told = (counts_found long symbols (sym f ∙ e)).1
 
-      pub normal_short : {x : Answer} → x ≡ refused 12 0 → length out < c → ◌≡◌ {A = Outcome} (record { answer = x; out = out }) (normal_outcome t n first text room out)
-      unfolding normal_outcome
-      normal_short g h = rw normal_fine (outcome_short t parts_of out told g h)
+      pub text_short : {x : Answer} → x ≡ refused 12 0 → length out < s.count → ◌≡◌ {A = Outcome} (record { answer = x; out = out }) (text_outcome t outputs stretches first text room out)
+      unfolding text_outcome
+      text_short g h = rw text_fine (outcome_short t parts_of out told g h)
 
-      pub normal_written : {x : Answer} {k : ℕ} {middle last : List ℕ} → ◌≡◌ {A = Merged} (record { count = k; ids = middle }) (parts_writer t parts_of out) → last ≡ take k middle ++ zeros (length middle - k)
-          → x ≡ done k d 0 → c ≤ length out → ◌≡◌ {A = Outcome} (record { answer = x; out = last }) (normal_outcome t n first text room out)
-      unfolding normal_outcome
-      normal_written written is g h = rw normal_fine (outcome-written t parts_of out told written is g h)
+      pub text_written : {x : Answer} {k : ℕ} {middle last : List ℕ} → ◌≡◌ {A = Merged} (record { count = k; ids = middle }) (parts_writer t parts_of out) → last ≡ take k middle ++ zeros (length middle - k)
+          → x ≡ done k s.drops 0 → s.count ≤ length out → ◌≡◌ {A = Outcome} (record { answer = x; out = last }) (text_outcome t outputs stretches first text room out)
+      unfolding text_outcome
+      text_written written is g h = rw text_fine (outcome-written t parts_of out told written is g h)
 
 -- On an accepted model with its derived rows it is what the definitions say of these parts.
 pub outcome_meant : (m : Model) → check_number m ≡ 0 → (parts : List (Item Stretch)) → Each OfBytes parts → (text out : List ℕ)
@@ -111,7 +109,7 @@ outcome_meant m fine parts small text out =
     (either (ltb (length out) (sum (map (starts_of m) parts)))))
 
 -- So on the raw path it is the outcome of the text.
-pub raw_meant : (m : Model) → check_number m ≡ 0 → (prepend : RawPrepend) → raw_path m ≡ Present prepend → (continuation : Bool) (text : List ℕ) → Small text → (out : List ℕ)
+pub raw_meant : (m : Model) → check_number m ≡ 0 → (prepend : RawPrepend) → raw_path m ≡ Some prepend → (continuation : Bool) (text : List ℕ) → Small text → (out : List ℕ)
     → let number = cond {A = ℕ} (ltb (length out) (starting_count m continuation text)) 12 0 in
     parts_outcome (tables_of m) (taken_apart (raw_stretch prepend continuation text) (sections m.first text)) out
     ≡ outcome number (place_of number text) (done (length (encoded_ids m continuation text)) (held (drops m continuation text)) 0) (encoded_ids m continuation text) out
@@ -124,8 +122,6 @@ module _ (m : Model) {adjacency index : List ℕ} (rows : adjacency ≡ derived_
   abbrev pub lent_tables : Tables
   lent_tables = tables_with adjacency index m
 
-  pub raw_lent : (parts : List (Item Stretch)) (out : List ℕ) → parts_outcome lent_tables parts out ≡ parts_outcome (tables_of m) parts out
-  raw_lent parts out = rw (rows, is)
-
-  pub normal_lent : (n : Normal) (first : TokenList) (text : List ℕ) (room : ℕ) (out : List ℕ) → normal_outcome lent_tables n first text room out ≡ normal_outcome (tables_of m) n first text room out
-  normal_lent n first text room out = rw (rows, is)
+  pub text_lent : (outputs : Bool → List ℕ → List (List ℕ)) (stretches : Bool → List ℕ → List (Item Stretch)) (first : TokenList) (text : List ℕ) (room : ℕ) (out : List ℕ)
+      → text_outcome lent_tables outputs stretches first text room out ≡ text_outcome (tables_of m) outputs stretches first text room out
+  text_lent outputs stretches first text room out = rw (rows, is)

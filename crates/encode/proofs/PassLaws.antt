@@ -1,30 +1,26 @@
 -- Laws of the two passes over the parts of a text: part by part. Assumes nothing.
-use Prim.Native.Nat.{ℕ, zero, suc, ◌+◌, ◌-◌, ◌≤◌, ◌<◌, min}
+use Rattle.std.specs.Prelude.{Option}
+use Prim.Native.Nat.{ℕ, zero, suc, ◌+◌, ◌-◌, ◌≤◌, min}
 use native.Mathlib.Omega.{arith}
 use native.Mathlib.Nat.{zero-add}
 use mathlib.Core.Path.{◌≡◌, refl, sym, ap, ap₂, ◌∙◌, subst}
-use mathlib.Core.Bool.{Bool, true, false, not, and-false}
-use mathlib.Core.Option.{Option}
+use mathlib.Core.Bool.{Bool, true, not}
 use mathlib.Core.List.{List, [], ◌∷◌, ◌++◌, map, map-append}
-use borrow.Author.Tests.{not-true, not-false, lt-ltb}
+use borrow.Author.Tests.{lt-ltb}
 use lib.Dec.{eqb, ltb, eqb-suc-zero}
 use lib.ListN.{length, take, drop, set}
-use lib.Seq.{slice}
 use Rattle.utf8.specs.Lists.{sum}
 use Rattle.model.specs.Mark.{mark_width, starts_with_mark}
-use Rattle.units.specs.declared.RawPrepend.{RawPrepend}
-use Rattle.units.specs.declared.RawPrepend.TheVariants.{Never, Unguarded, GuardedAlways, GuardedFirst}
 use Rattle.merge.specs.inner.Laid.{laid}
 use Rattle.merge.specs.inner.Turns.{Merged}
 use Rattle.merge.specs.declared.Symbols.{Symbols}
-use Rattle.sections.specs.Sections.{Item, token, bytes_of}
+use Rattle.sections.specs.Sections.{Item, token}
 use Rattle.stretches.specs.Stretches.{Stretch, stretch, held}
 use Rattle.stretches.specs.inner.Writers.{Writer, in_turn}
 use Rattle.stretches.specs.inner.Tables.{Tables}
 use Rattle.stretches.specs.inner.Parts.{part_starts, part_drops, parts_symbols, id_writer, part_writer, parts_writer}
 use Rattle.stretches.proofs.WriterLaws.{keeps_all, Going, going_fits, going_on, going_next, going_ended, turn-append}
 use Rattle.stretches.proofs.PartLaws.{keeps_id, keeps_part}
-use Rattle.encode.specs.Parts.{prepends_mark, virtual_mark, raw_stretch}
 
 -- ---- the virtual mark
 
@@ -36,49 +32,11 @@ unmarked-is bytes w e = rw (← e) (go w)
     go zero = refl
     go (suc n) = rw (eqb-suc-zero n, lt-ltb 0 (suc n) (omega arith))
 
-module _ (prepend : RawPrepend) (opening : Bool) (bytes : List ℕ) where
-  pub mark_never : prepend ≡ Never → false ≡ prepends_mark prepend opening bytes
-  unfolding prepends_mark
-  mark_never e = rw e
-
-  pub mark_always : prepend ≡ Unguarded → true ≡ prepends_mark prepend opening bytes
-  unfolding prepends_mark
-  mark_always e = rw e
-
-  pub mark_guarded : prepend ≡ GuardedAlways → {r : Bool} → r ≡ not (starts_with_mark true bytes) → r ≡ prepends_mark prepend opening bytes
-  unfolding prepends_mark
-  mark_guarded e f = f ∙ rw e
-
-  pub mark_closed : prepend ≡ GuardedFirst → not opening ≡ true → false ≡ prepends_mark prepend opening bytes
-  unfolding prepends_mark
-  mark_closed e o = rw (e, not-true opening o)
-
-  pub mark-opening : prepend ≡ GuardedFirst → not opening ≡ false → {r : Bool} → r ≡ not (starts_with_mark true bytes) → r ≡ prepends_mark prepend opening bytes
-  unfolding prepends_mark
-  mark-opening e o f = f ∙ rw (e, not-false opening o)
-
-module _ (prepend : RawPrepend) (continuation opening : Bool) (bytes : List ℕ) where
-  pub mark-first : not continuation ≡ true → prepends_mark prepend opening bytes ≡ virtual_mark prepend continuation opening bytes
-  unfolding virtual_mark
-  mark-first e = rw (not-true continuation e)
-
-  pub mark_gone : not continuation ≡ false → opening ≡ true → false ≡ virtual_mark prepend continuation opening bytes
-  unfolding virtual_mark
-  mark_gone e o = rw (not-false continuation e, o)
-
-  pub mark_later : opening ≡ false → prepends_mark prepend opening bytes ≡ virtual_mark prepend continuation opening bytes
-  unfolding virtual_mark
-  mark_later o = rw (o, and-false continuation)
-
 -- ---- a stretch by a virtual mark that was found
 
 pub counted_marked : (own : List ℕ → Option ℕ) (fallback bytes : List ℕ) (virtual raw : Bool) (room : ℕ) {mark : Bool} {s : Symbols}
     → s ≡ parts_symbols own fallback (stretch bytes mark raw) room → mark ≡ virtual → s ≡ parts_symbols own fallback (stretch bytes virtual raw) room
 counted_marked own fallback bytes virtual raw room e v = e ∙ ap (λ (mark : Bool). parts_symbols own fallback (stretch bytes mark raw) room) v
-
-pub written_marked : (t : Tables) (bytes : List ℕ) (virtual raw : Bool) (out : List ℕ) {mark : Bool} {done : Merged}
-    → done ≡ parts_writer t (stretch bytes mark raw) out → mark ≡ virtual → done ≡ parts_writer t (stretch bytes virtual raw) out
-written_marked t bytes virtual raw out e v = e ∙ ap (λ (mark : Bool). parts_writer t (stretch bytes mark raw) out) v
 
 -- ---- one token
 
@@ -130,19 +88,12 @@ module _ {own : List ℕ → Option ℕ} {fallback : List ℕ} {whole : List (It
 
   module _ {left : List (Item Stretch)} (g : Tallying own fallback whole left room n d) where
     -- A token is one more, where there is room for it.
-    pub tallying_token : (id : ℕ) (rest : List (Item Stretch)) → left ≡ token id ∷ rest → n < room → Tallying own fallback whole rest room (n + 1) d
+    pub tallying_token : (id : ℕ) (rest : List (Item Stretch)) → left ≡ token id ∷ rest → {more : ℕ} → more ≡ min room (n + 1) → Tallying own fallback whole rest room more d
     unfolding part_starts part_drops
-    tallying_token id rest is h =
+    tallying_token id rest is e =
         let l : sum (map (part_starts own fallback) left) ≡ 1 + sum (map (part_starts own fallback) rest) = rw is in
         let m : sum (map (part_drops own fallback) left) ≡ 0 + sum (map (part_drops own fallback) rest) = rw is in
-        record { within = omega arith; counted = omega (arith, g.counted); dropped = omega (arith, g.dropped); few = g.few }
-
-    pub tallying_full : (id : ℕ) (rest : List (Item Stretch)) → left ≡ token id ∷ rest → room ≤ n → Tallying own fallback whole rest room n d
-    unfolding part_starts part_drops
-    tallying_full id rest is h =
-        let l : sum (map (part_starts own fallback) left) ≡ 1 + sum (map (part_starts own fallback) rest) = rw is in
-        let m : sum (map (part_drops own fallback) left) ≡ 0 + sum (map (part_drops own fallback) rest) = rw is in
-        record { within = g.within; counted = omega (arith, g.counted, g.within); dropped = omega (arith, g.dropped); few = g.few }
+        record { within = omega arith; counted = omega (arith, g.counted, g.within); dropped = omega (arith, g.dropped); few = g.few }
 
     pub tallying_ended : left ≡ [] → ◌≡◌ {A = Symbols} (record { count = n; drops = d }) (parts_symbols own fallback whole room)
     unfolding parts_symbols
@@ -180,13 +131,6 @@ module _ (t : Tables) (whole left : List (Item Stretch)) {before out : List ℕ}
   pub parts-ended : left ≡ [] → ◌≡◌ {A = Merged} (record { count = n; ids = out }) (parts_writer t whole before)
   unfolding parts_writer
   parts-ended is = going_ended (subst (λ (r : List (Item Stretch)). Going (map (part_writer t) whole) (map (part_writer t) r) before out n) is g)
-
--- ---- a section of a text
-
-module _ (prepend : RawPrepend) (continuation : Bool) (text : List ℕ) (start stop : ℕ) (opening : Bool) {bytes : List ℕ} (is : bytes ≡ slice start stop text) where
-  pub raw_section : stretch bytes (virtual_mark prepend continuation opening bytes) true ≡ raw_stretch prepend continuation text (record { start = start; stop = stop; opening = opening })
-  unfolding raw_stretch bytes_of
-  raw_section = rw is
 
 pub counted-most : (own : List ℕ → Option ℕ) (fallback : List ℕ) (parts : List (Item Stretch)) (room : ℕ) {s : Symbols} → s ≡ parts_symbols own fallback parts room → s.count ≤ room
 unfolding parts_symbols

@@ -1,5 +1,5 @@
 -- The call encode. Ids, drops and the count that 12 looks at are sums over the parts of the text.
-use Rattle.std.specs.Prelude.{ℕ, min, Bool, not, ◌&&◌, List, [], ◌∷◌, ◌++◌, map, ltb, length}
+use Rattle.std.specs.Prelude.{ℕ, min, Bool, not, ◌&&◌, List, [], ◌∷◌, ◌++◌, map, ltb, length, Option, None, Some}
 use Rattle.utf8.specs.Lists.{join_map, sum}
 use Rattle.utf8.specs.Chars.{valid}
 use Rattle.model.specs.Model.{Model}
@@ -9,8 +9,7 @@ use Rattle.normalise.specs.Steps.{step_outputs}
 use Rattle.normalise.specs.Spaces.{metaspace_output}
 use Rattle.normalise.specs.Normalise.{outgrows}
 use Rattle.units.specs.Kinds.{raw_path, has_raw_path}
-use Rattle.units.specs.declared.RawPath.{RawPath}
-use Rattle.units.specs.declared.RawPath.TheVariants.{Absent, Present}
+use Rattle.units.specs.declared.RawPrepend.{RawPrepend}
 use Rattle.sections.specs.Sections.{Item, token, plain, Section, bytes_of, sections}
 use Rattle.sections.specs.SecondList.{NormalPart}
 use Rattle.stretches.specs.Stretches.{ids_of, drops_of, starts_of, held}
@@ -36,9 +35,9 @@ section_outputs m text (plain section) =
     step_outputs m (bytes_of text section) ++ join_map (metaspace_output_of m) (normal_parts_of m text section)
 
 -- The outputs that 11 looks at (rule 3.4): none on the raw path.
-unfoldable pub encode_outputs : Model → RawPath → List ℕ → List (List ℕ)
-encode_outputs m (Present prepend) text = []
-encode_outputs m Absent text = join_map (section_outputs m text) (sections m.first text)
+unfoldable pub encode_outputs : Model → Option RawPrepend → List ℕ → List (List ℕ)
+encode_outputs m (Some prepend) text = []
+encode_outputs m None text = join_map (section_outputs m text) (sections m.first text)
 
 -- out is the result buffer's length, room that of the shorter scratch buffer.
 unfoldable pub encode_number : Model → Bool → List ℕ → ℕ → ℕ → ℕ

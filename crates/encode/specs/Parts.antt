@@ -1,5 +1,5 @@
 -- What a text is encoded as: tokens, and stretches of bytes that are cut into units.
-use Rattle.std.specs.Prelude.{ℕ, Bool, true, false, not, ◌&&◌, List}
+use Rattle.std.specs.Prelude.{ℕ, Bool, true, false, not, ◌&&◌, List, Option, None, Some}
 use Rattle.model.specs.Model.{Model}
 use Rattle.model.specs.Mark.{starts_with_mark}
 use Rattle.normalise.specs.Steps.{stepped}
@@ -7,8 +7,6 @@ use Rattle.normalise.specs.Spaces.{metaspaced}
 use Rattle.units.specs.Kinds.{raw_path}
 use Rattle.units.specs.declared.RawPrepend.{RawPrepend}
 use Rattle.units.specs.declared.RawPrepend.TheVariants.{Never, Unguarded, GuardedAlways, GuardedFirst}
-use Rattle.units.specs.declared.RawPath.{RawPath}
-use Rattle.units.specs.declared.RawPath.TheVariants.{Absent, Present}
 use Rattle.sections.specs.Sections.{Item, taken_apart, Section, bytes_of, sections}
 use Rattle.sections.specs.SecondList.{NormalPart, normal_parts}
 use Rattle.stretches.specs.Stretches.{Stretch, stretch}
@@ -37,9 +35,9 @@ normal_stretch m part = stretch (metaspaced m.metaspace part.first part.bytes) f
 unfoldable pub normal_parts_of : Model → List ℕ → Section → List (Item NormalPart)
 normal_parts_of m text section = normal_parts m.second section.opening (stepped m (bytes_of text section))
 
-unfoldable pub stretches_of : Model → RawPath → Bool → List ℕ → Section → List (Item Stretch)
-stretches_of m (Present prepend) continuation text section = raw_stretch prepend continuation text section
-stretches_of m Absent continuation text section = taken_apart (normal_stretch m) (normal_parts_of m text section)
+unfoldable pub stretches_of : Model → Option RawPrepend → Bool → List ℕ → Section → List (Item Stretch)
+stretches_of m (Some prepend) continuation text section = raw_stretch prepend continuation text section
+stretches_of m None continuation text section = taken_apart (normal_stretch m) (normal_parts_of m text section)
 
 -- The tokens and stretches of a text, in their order.
 unfoldable pub parts : Model → Bool → List ℕ → List (Item Stretch)

@@ -2,270 +2,120 @@
 
 #![tactic(auto)]
 
-mod held;
+mod checked;
 mod marks;
 mod normal;
 mod parts;
+mod passes;
 mod raw;
-mod section;
 
-ghost use Rattle.std.specs.Prelude.{◌≡◌};
-ghost use Rattle.model.specs.Answers.{ScratchOutcome};
+ghost use Rattle.std.specs.Prelude.{◌≡◌, ◌≤◌, length};
+ghost use Rattle.model.specs.Answers.{ScratchOutcome, answer_of};
 ghost use Rattle.model.specs.Check.{check_number};
-ghost use Rattle.model.specs.Model.{model_of, token_list};
+ghost use Rattle.model.specs.Model.{columns};
 ghost use Rattle.prepare.specs.Prepare.{derived_adjacency, derived_index};
 ghost use Rattle.encode.specs.Encode.{encode_outcome};
 
-use model::tables::number_at;
-use model::{Answer, Metaspace, Step};
-use normal::encode_normal;
-use normalise::finish::clear;
-use prepare::numbers::raw_path_from;
-use prepare::prepare_checked;
-use prepare::read::words_between;
-use raw::encode_raw;
-use units::RawPath;
+use checked::Checked;
+use model::{Counts, Model, Refusal, TEXT_LIMIT, check};
+use normal::Normal;
+use passes::encode_sections;
+use prepare::{ADJACENCY_LEN, INDEX_LEN, Prepared, prepare_checked};
+use raw::Raw;
 use utf8::chars::valid_prefix;
 
-// What the first pass finds.
-#[derive(Clone, Copy)]
-pub enum Counted {
-    Counts { count: usize, drops: usize },
-    // An output of a step or of metaspace is too long for the scratch buffers.
-    TooLong,
+// `encode` on an accepted model, for a text that is not too long.
+fn encode_short(
+    model: &Checked<'_>,
+    text: &[u8],
+    continuation: bool,
+    out: &mut [u32],
+    scratch_a: &mut [u8],
+    scratch_b: &mut [u8],
+) -> Result<Counts, Refusal>
+    requires { length text.now ≤ 1048576 }
+    ensures { ◌≡◌ {A = ScratchOutcome} (record { answer = answer_of result; out = out.new; scratch_a = scratch_a.new; scratch_b = scratch_b.new }) (encode_outcome (columns model.now.prepared.now.model.now) text.now continuation out.old scratch_a.old scratch_b.old) }
+{
+    let place = valid_prefix(text);
+    if place != text.len() {
+        return Err(Refusal::BadText { place });
+    }
+    let prepared = model.prepared;
+    let outcome = match prepared.raw_path() {
+        Some(prepend) => {
+            let path = Raw {
+                prepared,
+                prepend,
+                continuation,
+            };
+            encode_sections(&path, model, text, scratch_a, scratch_b, out)
+        }
+        None => {
+            if continuation {
+                return Err(Refusal::NoRawPath);
+            }
+            encode_sections(&Normal { model }, model, text, scratch_a, scratch_b, out)
+        }
+    };
+    scratch_a.fill(0);
+    scratch_b.fill(0);
+    outcome
 }
 
 // `encode` on a model that `model::check` accepts, with the two rows that `prepare` derives of it.
 pub fn encode_prepared(
-    piece_bytes: &[u8],
-    piece_offsets: &[u32],
-    lookup: &[u32],
-    fallback: &[u32],
-    left: &[u32],
-    right: &[u32],
-    res: &[u32],
-    rank: &[u32],
-    first_bytes: &[u8],
-    first_offsets: &[u32],
-    first_ids: &[u32],
-    first_lstrip: &[bool],
-    first_rstrip: &[bool],
-    second_bytes: &[u8],
-    second_offsets: &[u32],
-    second_ids: &[u32],
-    second_lstrip: &[bool],
-    second_rstrip: &[bool],
-    step_bytes: &[u8],
-    steps: [Step; 16],
-    step_count: usize,
-    metaspace: Metaspace,
-    adjacency: &[u64],
-    index: &[u32],
+    prepared: &Prepared<'_>,
     text: &[u8],
     continuation: bool,
     out: &mut [u32],
     scratch_a: &mut [u8],
     scratch_b: &mut [u8],
-) -> Answer
-    requires accepted { check_number (model_of piece_bytes.now piece_offsets.now lookup.now fallback.now left.now right.now res.now rank.now (token_list first_bytes.now first_offsets.now first_ids.now first_lstrip.now first_rstrip.now) (token_list second_bytes.now second_offsets.now second_ids.now second_lstrip.now second_rstrip.now) step_bytes.now steps step_count metaspace) ≡ 0 }
-    requires adjacency_derived { adjacency.now ≡ derived_adjacency (model_of piece_bytes.now piece_offsets.now lookup.now fallback.now left.now right.now res.now rank.now (token_list first_bytes.now first_offsets.now first_ids.now first_lstrip.now first_rstrip.now) (token_list second_bytes.now second_offsets.now second_ids.now second_lstrip.now second_rstrip.now) step_bytes.now steps step_count metaspace) }
-    requires index_derived { index.now ≡ derived_index (model_of piece_bytes.now piece_offsets.now lookup.now fallback.now left.now right.now res.now rank.now (token_list first_bytes.now first_offsets.now first_ids.now first_lstrip.now first_rstrip.now) (token_list second_bytes.now second_offsets.now second_ids.now second_lstrip.now second_rstrip.now) step_bytes.now steps step_count metaspace) }
-    ensures { ◌≡◌ {A = ScratchOutcome} (record { answer = result; out = out.new; scratch_a = scratch_a.new; scratch_b = scratch_b.new }) (encode_outcome (model_of piece_bytes.now piece_offsets.now lookup.now fallback.now left.now right.now res.now rank.now (token_list first_bytes.now first_offsets.now first_ids.now first_lstrip.now first_rstrip.now) (token_list second_bytes.now second_offsets.now second_ids.now second_lstrip.now second_rstrip.now) step_bytes.now steps step_count metaspace) text.now continuation out.old scratch_a.old scratch_b.old) }
+) -> Result<Counts, Refusal>
+    requires accepted { check_number (columns prepared.now.model.now) ≡ 0 }
+    requires adjacency_derived { prepared.now.adjacency.now ≡ derived_adjacency (columns prepared.now.model.now) }
+    requires index_derived { prepared.now.index.now ≡ derived_index (columns prepared.now.model.now) }
+    ensures { ◌≡◌ {A = ScratchOutcome} (record { answer = answer_of result; out = out.new; scratch_a = scratch_a.new; scratch_b = scratch_b.new }) (encode_outcome (columns prepared.now.model.now) text.now continuation out.old scratch_a.old scratch_b.old) }
 {
-    if model::TEXT_LIMIT < text.len() {
-        return Answer::refused(model::WRONG_SIZE, 0);
+    if TEXT_LIMIT < text.len() {
+        return Err(Refusal::WrongSize);
     }
-    let prefix = valid_prefix(text);
-    if prefix != text.len() {
-        return Answer::refused(model::BAD_TEXT, prefix);
-    }
-    let path = raw_path_from(number_at(index, prepare::RAW_PATH_AT));
-    match path {
-        RawPath::Present(prepend) => {
-            let answer = encode_raw(
-                adjacency,
-                index,
-                piece_bytes,
-                piece_offsets,
-                lookup,
-                fallback,
-                left,
-                right,
-                res,
-                rank,
-                first_bytes,
-                first_offsets,
-                first_ids,
-                first_lstrip,
-                first_rstrip,
-                words_between(index, prepare::FIRST_TOKENS_AT, prepare::SECOND_TOKENS_AT),
-                prepend,
-                continuation,
-                text,
-                out,
-            );
-            clear(scratch_a);
-            clear(scratch_b);
-            answer
-        }
-        RawPath::Absent => {
-            if continuation {
-                return Answer::refused(model::NO_RAW_PATH, 0);
-            }
-            let answer = encode_normal(
-                adjacency,
-                index,
-                piece_bytes,
-                piece_offsets,
-                lookup,
-                fallback,
-                left,
-                right,
-                res,
-                rank,
-                first_bytes,
-                first_offsets,
-                first_ids,
-                first_lstrip,
-                first_rstrip,
-                words_between(index, prepare::FIRST_TOKENS_AT, prepare::SECOND_TOKENS_AT),
-                second_bytes,
-                second_offsets,
-                second_ids,
-                second_lstrip,
-                second_rstrip,
-                words_between(index, prepare::SECOND_TOKENS_AT, prepare::LONGEST_AT),
-                step_bytes,
-                steps,
-                step_count,
-                metaspace,
-                text,
-                scratch_a,
-                scratch_b,
-                out,
-            );
-            clear(scratch_a);
-            clear(scratch_b);
-            answer
-        }
-    }
+    encode_short(
+        &Checked { prepared },
+        text,
+        continuation,
+        out,
+        scratch_a,
+        scratch_b,
+    )
 }
 
 // The ids of a text. `continuation` says that it goes on from an earlier text: its opening section gets no virtual mark.
 pub fn encode(
-    piece_bytes: &[u8],
-    piece_offsets: &[u32],
-    lookup: &[u32],
-    fallback: &[u32],
-    left: &[u32],
-    right: &[u32],
-    res: &[u32],
-    rank: &[u32],
-    first_bytes: &[u8],
-    first_offsets: &[u32],
-    first_ids: &[u32],
-    first_lstrip: &[bool],
-    first_rstrip: &[bool],
-    second_bytes: &[u8],
-    second_offsets: &[u32],
-    second_ids: &[u32],
-    second_lstrip: &[bool],
-    second_rstrip: &[bool],
-    step_bytes: &[u8],
-    steps: [Step; 16],
-    step_count: usize,
-    metaspace: Metaspace,
+    model: &Model<'_>,
     text: &[u8],
     continuation: bool,
     out: &mut [u32],
     scratch_a: &mut [u8],
     scratch_b: &mut [u8],
-) -> Answer
-    ensures { ◌≡◌ {A = ScratchOutcome} (record { answer = result; out = out.new; scratch_a = scratch_a.new; scratch_b = scratch_b.new }) (encode_outcome (model_of piece_bytes.now piece_offsets.now lookup.now fallback.now left.now right.now res.now rank.now (token_list first_bytes.now first_offsets.now first_ids.now first_lstrip.now first_rstrip.now) (token_list second_bytes.now second_offsets.now second_ids.now second_lstrip.now second_rstrip.now) step_bytes.now steps step_count metaspace) text.now continuation out.old scratch_a.old scratch_b.old) }
+) -> Result<Counts, Refusal>
+    ensures { ◌≡◌ {A = ScratchOutcome} (record { answer = answer_of result; out = out.new; scratch_a = scratch_a.new; scratch_b = scratch_b.new }) (encode_outcome (columns model.now) text.now continuation out.old scratch_a.old scratch_b.old) }
 {
-    if model::TEXT_LIMIT < text.len() {
-        return Answer::refused(model::WRONG_SIZE, 0);
+    if TEXT_LIMIT < text.len() {
+        return Err(Refusal::WrongSize);
     }
-    let checked = model::check(
-        piece_bytes,
-        piece_offsets,
-        lookup,
-        fallback,
-        left,
-        right,
-        res,
-        rank,
-        first_bytes,
-        first_offsets,
-        first_ids,
-        first_lstrip,
-        first_rstrip,
-        second_bytes,
-        second_offsets,
-        second_ids,
-        second_lstrip,
-        second_rstrip,
-        step_bytes,
-        steps,
-        step_count,
-        metaspace,
-    );
-    if checked.number != 0 {
-        return checked;
-    }
-    let mut adjacency = [0u64; prepare::ADJACENCY_LEN];
-    let mut index = [0u32; prepare::INDEX_LEN];
-    prepare_checked(
-        piece_bytes,
-        piece_offsets,
-        lookup,
-        fallback,
-        left,
-        right,
-        res,
-        rank,
-        first_bytes,
-        first_offsets,
-        first_ids,
-        first_lstrip,
-        first_rstrip,
-        second_bytes,
-        second_offsets,
-        second_ids,
-        second_lstrip,
-        second_rstrip,
-        step_bytes,
-        steps,
-        step_count,
-        metaspace,
-        &mut adjacency,
-        &mut index,
-    );
-    encode_prepared(
-        piece_bytes,
-        piece_offsets,
-        lookup,
-        fallback,
-        left,
-        right,
-        res,
-        rank,
-        first_bytes,
-        first_offsets,
-        first_ids,
-        first_lstrip,
-        first_rstrip,
-        second_bytes,
-        second_offsets,
-        second_ids,
-        second_lstrip,
-        second_rstrip,
-        step_bytes,
-        steps,
-        step_count,
-        metaspace,
-        &adjacency,
-        &index,
+    check(model)?;
+    let mut adjacency = [0u64; ADJACENCY_LEN];
+    let mut index = [0u32; INDEX_LEN];
+    prepare_checked(model, &mut adjacency, &mut index)?;
+    let prepared = Prepared {
+        model,
+        adjacency: &adjacency,
+        index: &index,
+    };
+    encode_short(
+        &Checked {
+            prepared: &prepared,
+        },
         text,
         continuation,
         out,

@@ -13,6 +13,7 @@ fn unmarked(bytes: &[u8]) -> bool
     mark_width(bytes, true) == 0
 }
 
+#[tactic(auto, unfolding(crate::specs::Parts::prepends_mark))]
 fn prepends_mark(prepend: RawPrepend, opening: bool, bytes: &[u8]) -> bool
     ensures { result ≡ prepends_mark prepend opening bytes.now }
 {
@@ -20,24 +21,14 @@ fn prepends_mark(prepend: RawPrepend, opening: bool, bytes: &[u8]) -> bool
         RawPrepend::Never => false,
         RawPrepend::Unguarded => true,
         RawPrepend::GuardedAlways => unmarked(bytes),
-        RawPrepend::GuardedFirst => {
-            if !opening {
-                return false;
-            }
-            unmarked(bytes)
-        }
+        RawPrepend::GuardedFirst => opening && unmarked(bytes),
     }
 }
 
 // The same for a text that may be a continuation.
+#[tactic(auto, unfolding(crate::specs::Parts::virtual_mark))]
 pub fn virtual_mark(prepend: RawPrepend, continuation: bool, opening: bool, bytes: &[u8]) -> bool
     ensures { result ≡ virtual_mark prepend continuation opening bytes.now }
 {
-    if !continuation {
-        return prepends_mark(prepend, opening, bytes);
-    }
-    if opening {
-        return false;
-    }
-    prepends_mark(prepend, opening, bytes)
+    !(continuation && opening) && prepends_mark(prepend, opening, bytes)
 }

@@ -1,15 +1,17 @@
 -- The search ahead of a place for tokens with lstrip. Assumes nothing.
+use Rattle.std.specs.Prelude.{None, Some}
 use Prim.Native.Nat.{ℕ, suc, ◌+◌, ◌-◌, ◌≤◌, ◌<◌}
 use native.Mathlib.Nat.{eq-or-lt_of_le}
 use native.Mathlib.Omega.{arith}
 use mathlib.Core.Path.{◌≡◌, refl, sym, ap, ◌∙◌}
-use mathlib.Core.Bool.{Bool, true, false, ◌&&◌}
+use mathlib.Core.Bool.{true, false, ◌&&◌}
 use mathlib.Core.Logic.{⊎_elim}
 use mathlib.Core.List.{List, [], ◌∷◌}
-use mathlib.Core.Option.{none, some}
 use lib.ListN.{length, drop, get_or, length-drop}
-use lib.Seq.{drop-cons, get_or-drop}
-use Rattle.utf8.specs.Lists.{any, find, within, starts_with, count_from}
+use lib.Seq.{slice, take-length, drop-cons, get_or-drop}
+use Rattle.std.specs.List.{list_any, range_with_len}
+use Rattle.model.proofs.StringLaws.{length-strings}
+use Rattle.utf8.specs.Lists.{find, within, starts_with, count_from}
 use Rattle.utf8.specs.Chars.{tail, has_form}
 use Rattle.utf8.specs.WhiteSpace.{trim_start}
 use Rattle.utf8.specs.inner.Ends.{white_width}
@@ -18,22 +20,20 @@ use Rattle.utf8.proofs.Characters.{char_tails}
 use Rattle.utf8.proofs.Trim.{white_width_whole, trim_start_stops, trim_start-next, trim_start_trimmed, white_ends}
 use Rattle.model.specs.Model.{TokenList, strings, contents, token_at}
 use Rattle.sections.specs.Sections.{white_length}
-use Rattle.fragments.specs.inner.Reach.{tokens_of, Edge, Fine, places_ahead, stands_at, strips_at}
+use Rattle.fragments.specs.inner.Reach.{Edge, places_ahead, stands_at, strips_at}
+use Rattle.fragments.proofs.GivenLaws.{Fine}
 use Rattle.fragments.proofs.ChoiceLaws.{never}
-use Rattle.fragments.proofs.Bounded.{Holding, any_where, find_skip}
+use Rattle.fragments.proofs.Bounded.{Holding, any_where, any_below_lem, find_skip}
 use Rattle.fragments.proofs.BlockLaws.{standing}
 
--- ---- the token of a row
+-- ---- a test of all rows
 
--- It has lstrip and stands at s.
-abbrev pub stripping : List ℕ → List ℕ → List Bool → List ℕ → ℕ → ℕ → Bool
-stripping bytes offsets lstrip text s row = get_or lstrip row false && starts_with (get_or (strings bytes offsets) row []) (drop s text)
-
-pub strips_by_rows : (bytes offsets : List ℕ) (lstrip : List Bool) (text : List ℕ) (s count : ℕ) → count ≡ length (strings bytes offsets)
-    → any (stripping bytes offsets lstrip text s) (count_from 0 (count - 0)) ≡ strips_at (tokens_of bytes offsets lstrip []) text s
+pub strips-counted : (t : TokenList) (text : List ℕ) (s n : ℕ) {rest : List ℕ} → n ≡ length t.offsets - 1 → rest ≡ slice s (length text) text
+    → list_any (λ (row : ℕ). get_or t.lstrip row false && starts_with (get_or (strings t.bytes t.offsets) row []) rest) (range_with_len 0 n) ≡ strips_at t text s
 unfolding strips_at token_at contents stands_at
-strips_by_rows bytes offsets lstrip text s count e =
-    let all_of : count - 0 ≡ length (strings bytes offsets) = omega arith in rw all_of
+strips-counted t text s n {rest} e is =
+    let rows : n ≡ length (strings t.bytes t.offsets) = e ∙ sym (length-strings t.bytes t.offsets) in
+    rw (is ∙ ap (drop s) (take-length text), rows) (any_below_lem (λ (row : ℕ). get_or t.lstrip row false && starts_with (get_or (strings t.bytes t.offsets) row []) (drop s text)) (length (strings t.bytes t.offsets)))
 
 -- ---- a token with lstrip stands within the text, where a character starts
 
@@ -66,11 +66,11 @@ module _ (t : TokenList) (text : List ℕ) (fine : Fine t text) where
     strips_inside : (x : ℕ) → s < x → x < s + w → strips_at t text x ≡ false
     strips_inside x h k = never (strips_at t text x) (λ e. clash (strips-standing x e).1 (inside_tail x h k (strips-standing x e).0))
 
-    pub ahead_found : strips_at t text s ≡ true → find (strips_at t text) (places_ahead text s) ≡ some s
+    pub ahead_found : strips_at t text s ≡ true → find (strips_at t text) (places_ahead text s) ≡ Some s
     unfolding places_ahead
     ahead_found e = rw e
 
-    pub ahead_ended : strips_at t text s ≡ false → w ≡ 0 → find (strips_at t text) (places_ahead text s) ≡ none
+    pub ahead_ended : strips_at t text s ≡ false → w ≡ 0 → find (strips_at t text) (places_ahead text s) ≡ None
     unfolding places_ahead white_length
     ahead_ended e z =
         let none_left : length (drop s text) - length (trim_start (drop s text)) ≡ 0 = omega (arith, ap length (trim_start_stops (drop s text) z)) in

@@ -20,7 +20,8 @@ use Rattle.model.specs.Model.{TokenList, contents, token_at}
 use Rattle.sections.specs.Sections.{white_length}
 use Rattle.fragments.specs.Safe.{makes_blocks, block_start, block_end, block, blocked_by}
 use Rattle.fragments.specs.inner.Most.{most}
-use Rattle.fragments.specs.inner.Reach.{Edge, Fine, places_ahead, stands_at, strips_at, blocked_ahead, blocked_in, reach_of, reach_at, reach}
+use Rattle.fragments.specs.inner.Reach.{Edge, places_ahead, stands_at, strips_at, blocked_ahead, blocked_in, reach_of, reach_at, reach}
+use Rattle.fragments.proofs.GivenLaws.{Fine}
 use Rattle.fragments.proofs.ChoiceLaws.{never, lt-or-le, chosen, positive}
 use Rattle.fragments.proofs.Bounded.{Holding, any_here, any_where, most_here, most_where}
 use Rattle.fragments.proofs.WhiteLaws.{trimmed, white_end, trimmed_le, trims_behind, ends_before, same_end}

@@ -1,4 +1,6 @@
 -- Tests and numbers over the places from one on. Assumes nothing.
+use Rattle.std.specs.Prelude.{None, Some}
+use Rattle.std.proofs.lemmas.Option.{none-some, same_Some}
 use Prim.Native.Nat.{ℕ, zero, suc, ◌+◌, ◌-◌, ◌≤◌, ◌<◌, max}
 use native.Mathlib.Nat.{eq-or-lt_of_le, zero-add, add-zero, suc-add}
 use native.Mathlib.Numerals.{add-one}
@@ -6,9 +8,9 @@ use native.Mathlib.Omega.{arith}
 use mathlib.Core.Path.{◌≡◌, refl, sym, ap, ◌∙◌}
 use mathlib.Core.Bool.{Bool, true, false, cond, ◌||◌}
 use mathlib.Core.List.{List, [], ◌∷◌}
-use mathlib.Core.Option.{none, some, none-ne-some, some-injective}
 use mathlib.Core.Logic.{◌⊎◌, inl, inr, ⊎_elim}
-use Rattle.utf8.specs.Lists.{any, find, count_from}
+use Rattle.utf8.specs.Lists.{any, find, below, count_from}
+use Rattle.std.specs.List.{list_any, range_with_len}
 use Rattle.utf8.proofs.Tests.{clash, or_also}
 use Rattle.fragments.specs.inner.Most.{most}
 use Rattle.fragments.proofs.ChoiceLaws.{or-first, lt-or-le}
@@ -35,37 +37,30 @@ module _ (test : ℕ → Bool) where
           let w = later e in
           record { place = w.place; low = omega (arith, w.low); high = omega (arith, w.high); holds = w.holds }
 
-  -- A loop that tests one place after the other.
-  pub any_step : (row n : ℕ) → row < n → any test (count_from row (n - row)) ≡ (test row || any test (count_from (row + 1) (n - (row + 1))))
-  any_step row n h = let more : n - row ≡ suc (n - suc row) = omega arith in rw (more, add-one)
-
-  pub any-stop : (row n : ℕ) → n ≤ row → any test (count_from row (n - row)) ≡ false
-  any-stop row n h = let none_left : n - row ≡ 0 = omega arith in rw none_left
-
   -- What a search finds, and that it finds nothing.
   pub record Found (a k x : ℕ) : Type 0 where
     pub low : a ≤ x
     pub high : x < a + k
     pub holds : test x ≡ true
 
-  pub find_where : (a k x : ℕ) → find test (count_from a k) ≡ some x → Found a k x
-  find_where a zero x e = absurd (none-ne-some x e)
+  pub find_where : (a k x : ℕ) → find test (count_from a k) ≡ Some x → Found a k x
+  find_where a zero x e = absurd (none-some x e)
   find_where a (suc k) x e = go (find_where (suc a) k x) (test a) refl e
     where
-      go : (find test (count_from (suc a) k) ≡ some x → Found (suc a) k x) → (b : Bool) → test a ≡ b → cond b (some a) (find test (count_from (suc a) k)) ≡ some x → Found a (suc k) x
+      go : (find test (count_from (suc a) k) ≡ Some x → Found (suc a) k x) → (b : Bool) → test a ≡ b → cond b (Some a) (find test (count_from (suc a) k)) ≡ Some x → Found a (suc k) x
       go later true q e =
-          let same : a ≡ x = some-injective a x e in
+          let same : a ≡ x = same_Some a x e in
           record { low = omega arith; high = omega arith; holds = ap test (sym same) ∙ q }
       go later false q e =
           let f = later e in
           record { low = omega (arith, f.low); high = omega (arith, f.high); holds = f.holds }
 
-  pub find-nothing : (xs : List ℕ) → find test xs ≡ none → any test xs ≡ false
+  pub find-nothing : (xs : List ℕ) → find test xs ≡ None → any test xs ≡ false
   find-nothing [] e = refl
   find-nothing (x ∷ xs) e = go (test x) (find-nothing xs) e
     where
-      go : (b : Bool) → (find test xs ≡ none → any test xs ≡ false) → cond b (some x) (find test xs) ≡ none → (b || any test xs) ≡ false
-      go true later e = absurd (none-ne-some x (sym e))
+      go : (b : Bool) → (find test xs ≡ None → any test xs ≡ false) → cond b (Some x) (find test xs) ≡ None → (b || any test xs) ≡ false
+      go true later e = absurd (none-some x (sym e))
       go false later e = later e
 
   -- Places that fail are passed over.
@@ -125,10 +120,7 @@ module _ (f : ℕ → ℕ) where
       up : all_of ≤ max (most f (count_from a j)) (most f (count_from (a + j) k))
       up = most-below a (j + k) (max (most f (count_from a j)) (most f (count_from (a + j) k))) (λ x l h. ⊎_elim (λ q. omega (arith, most_here a j x l q)) (λ q. omega (arith, most_here (a + j) k x q (omega arith))) (lt-or-le x (a + j)))
 
-  -- A loop that keeps the greatest so far: its start, one place more, and the end.
-  pub most-start : (n m : ℕ) → n ≡ m → max 0 (most f (count_from 0 (n - 0))) ≡ most f (count_from 0 m)
-  most-start n m e = let all_of : n - 0 ≡ m = omega arith in rw all_of (omega arith)
-
+  -- A loop that keeps the greatest so far: one place more, and the end.
   pub most-next : (row n far : ℕ) → row < n → max far (most f (count_from row (n - row))) ≡ max (max far (f row)) (most f (count_from (row + 1) (n - (row + 1))))
   most-next row n far h =
       let more : n - row ≡ suc (n - suc row) = omega arith in
@@ -138,7 +130,7 @@ module _ (f : ℕ → ℕ) where
   pub most-ended : (row n far : ℕ) → n ≤ row → max far (most f (count_from row (n - row))) ≡ far
   most-ended row n far h = let none_left : n - row ≡ 0 = omega arith in rw none_left (omega arith)
 
-  -- The same walked back from the end.
+  -- A loop that walks back from the end and keeps the greatest so far.
   pub most-last : (from s far : ℕ) → from < s → max far (most f (count_from from (s - from))) ≡ max (max far (f (s - 1))) (most f (count_from from ((s - 1) - from)))
   most-last from s far h =
       let parts : s - from ≡ ((s - 1) - from) + 1 = omega arith in
@@ -146,3 +138,13 @@ module _ (f : ℕ → ℕ) where
       let split : most f (count_from from (s - from)) ≡ max (most f (count_from from ((s - 1) - from))) (max (f (s - 1)) 0) =
       ap (λ (k : ℕ). most f (count_from from k)) parts ∙ most-split from ((s - 1) - from) 1 ∙ ap (λ (k : ℕ). max (most f (count_from from ((s - 1) - from))) (max (f k) 0)) last in
       omega (arith, split)
+
+-- ---- what an iterator over places tests
+
+module _ (test : ℕ → Bool) where
+  any_counted : (a n : ℕ) → list_any test (range_with_len a n) ≡ any test (count_from a n)
+  any_counted a zero = refl
+  any_counted a (suc n) = rw (any_counted (a + 1) n, add-one)
+
+  pub any_below_lem : (n : ℕ) → list_any test (range_with_len 0 n) ≡ any test (below n)
+  any_below_lem n = any_counted 0 n

@@ -2,54 +2,24 @@
 use Prim.Native.Nat.{ℕ, suc, ◌+◌, ◌-◌, ◌≤◌, ◌<◌, max}
 use native.Mathlib.Omega.{arith}
 use mathlib.Core.Path.{◌≡◌, refl, sym, ap, ap₂, ◌∙◌}
-use mathlib.Core.Bool.{Bool, true, false, cond, ◌&&◌, ◌||◌}
+use mathlib.Core.Bool.{Bool, true, false, beq, cond, ◌&&◌}
 use mathlib.Core.List.{List, [], ◌∷◌}
-use lib.Dec.{eqb}
 use lib.ListN.{length, drop, get_or}
 use lib.Seq.{slice, take-length, drop-cons}
-use Rattle.utf8.specs.Lists.{is_empty, any, count_from, starts_with}
-use Rattle.utf8.proofs.Tests.{clash, and_both, or_left, or_also}
+use Rattle.utf8.specs.Lists.{is_empty, count_from, starts_with}
+use Rattle.utf8.proofs.Tests.{clash, and_both, or_left}
 use Rattle.utf8.proofs.Elements.{any-false-at}
 use Rattle.model.specs.Check.{empty_or_no_text, bad_token}
 use Rattle.model.specs.Model.{TokenList, Token, strings, contents, token_at}
-use Rattle.sections.specs.Beginnings.{begins_with, beginnings}
+use Rattle.sections.specs.Beginnings.{begins_with}
 use Rattle.sections.specs.inner.Seek.{may_begin}
-use Rattle.sections.proofs.SeekLaws.{Sound, first_sound}
+use Rattle.sections.proofs.SeekLaws.{Sound}
 use Rattle.fragments.specs.Safe.{makes_blocks}
 use Rattle.fragments.specs.inner.Most.{most}
-use Rattle.fragments.specs.inner.Reach.{tokens_of, Longest, is_as, stands_at, strips_at, end_of, end_at}
-use Rattle.fragments.proofs.ChoiceLaws.{never, or-first, second-false, not_chosen}
+use Rattle.fragments.specs.inner.Reach.{is_as, stands_at, strips_at, end_of, end_at}
+use Rattle.fragments.proofs.GivenLaws.{Longest}
+use Rattle.fragments.proofs.ChoiceLaws.{never, second-false, not_chosen}
 use Rattle.fragments.proofs.Bounded.{Holding, any_where, most-below}
-
--- ---- which tokens block
-
-module _ (unguarded : Bool) (k : Token) where
-  abbrev held : Bool
-  held = any (λ (b : ℕ). eqb b 0x20 || eqb b 0xE2) k.content
-
-  pub blocks_left : k.lstrip ≡ true → makes_blocks unguarded k ≡ true
-  unfolding makes_blocks
-  blocks_left e = or-first unguarded (or-first k.rstrip (or_also held e))
-
-  pub blocks_right : k.rstrip ≡ true → makes_blocks unguarded k ≡ true
-  unfolding makes_blocks
-  blocks_right e = or-first unguarded (or_also (held || k.lstrip) e)
-
-  pub blocks_always : unguarded ≡ true → makes_blocks unguarded k ≡ true
-  unfolding makes_blocks
-  blocks_always e = or_also (held || k.lstrip || k.rstrip) e
-
-  pub blocks_held : k.lstrip ≡ false → k.rstrip ≡ false → unguarded ≡ false → makes_blocks unguarded k ≡ held
-  unfolding makes_blocks
-  blocks_held e f g = rw (e, f, g) (last held)
-    where
-      last : (b : Bool) → (b || false || false || false) ≡ b
-      last true = refl
-      last false = refl
-
--- A token's parts, as they were found.
-pub same-token : (unguarded : Bool) {c d : List ℕ} {l m r q : Bool} → c ≡ d → l ≡ m → r ≡ q → makes_blocks unguarded (record { content = c; id = 0; lstrip = l; rstrip = r }) ≡ makes_blocks unguarded (record { content = d; id = 0; lstrip = m; rstrip = q })
-same-token unguarded e f g = rw (e, f, g)
 
 -- A content against what stands from a place on.
 pub same_start : (text : List ℕ) (s : ℕ) {c d part : List ℕ} → c ≡ d → part ≡ slice s (length text) text → starts_with c part ≡ starts_with d (drop s text)
@@ -57,42 +27,42 @@ same_start text s e f = ap₂ starts_with e (f ∙ ap (drop s) (take-length text
 
 -- ---- where the token of a row ends
 
-module _ (unguarded strip : Bool) (bytes offsets : List ℕ) (lstrip rstrip : List Bool) (text : List ℕ) (s row : ℕ) where
-  abbrev t : TokenList
-  t = tokens_of bytes offsets lstrip rstrip
+as_asked : (strip flag : Bool) → is_as strip flag ≡ beq flag strip
+as_asked true true = refl
+as_asked true false = refl
+as_asked false true = refl
+as_asked false false = refl
 
+module _ (unguarded strip : Bool) (t : TokenList) (text : List ℕ) (s row : ℕ) where
   abbrev content : List ℕ
-  content = get_or (strings bytes offsets) row []
+  content = get_or (strings t.bytes t.offsets) row []
 
-  abbrev far : ℕ
-  far = s + length content
-
-  abbrev flag : Bool
-  flag = is_as strip (get_or rstrip row false)
+  abbrev right : Bool
+  right = get_or t.rstrip row false
 
   abbrev stands : Bool
   stands = starts_with content (drop s text)
 
   abbrev token : Token
-  token = record { content = content; id = 0; lstrip = get_or lstrip row false; rstrip = get_or rstrip row false }
+  token = record { content = content; id = 0; lstrip = get_or t.lstrip row false; rstrip = right }
 
-  pub end_other : flag ≡ false → 0 ≡ end_of unguarded t text strip s row
-  unfolding end_of token_at contents stands_at
-  end_other e = not_chosen {b = flag && (makes_blocks unguarded token && stands)} far (rw e)
+  pub end_other : beq right strip ≡ false → 0 ≡ end_of unguarded t text strip s row
+  unfolding end_of token_at contents stands_at makes_blocks
+  end_other e = not_chosen {b = is_as strip right && (makes_blocks unguarded token && stands)} (s + length content) (rw (as_asked strip right ∙ e))
 
   pub end-apart : stands ≡ false → 0 ≡ end_of unguarded t text strip s row
-  unfolding end_of token_at contents stands_at
-  end-apart e = not_chosen far (second-false flag (second-false (makes_blocks unguarded token) e))
+  unfolding end_of token_at contents stands_at makes_blocks
+  end-apart e = not_chosen (s + length content) (second-false (is_as strip right) (second-false (makes_blocks unguarded token) e))
 
   pub end_idle : makes_blocks unguarded token ≡ false → 0 ≡ end_of unguarded t text strip s row
-  unfolding end_of token_at contents stands_at
-  end_idle e = not_chosen far (second-false flag (ap (λ (b : Bool). b && stands) e))
+  unfolding end_of token_at contents stands_at makes_blocks
+  end_idle e = not_chosen (s + length content) (second-false (is_as strip right) (ap (λ (b : Bool). b && stands) e))
 
-  pub end_stands : flag ≡ true → stands ≡ true → makes_blocks unguarded token ≡ true → far ≡ end_of unguarded t text strip s row
-  unfolding end_of token_at contents stands_at
-  end_stands e f g = sym (picked (and_both e (and_both g f)))
+  pub end_stands : beq right strip ≡ true → stands ≡ true → makes_blocks unguarded token ≡ true → s + length content ≡ end_of unguarded t text strip s row
+  unfolding end_of token_at contents stands_at makes_blocks
+  end_stands e f g = sym (picked (and_both (as_asked strip right ∙ e) (and_both g f)))
     where
-      picked : {b : Bool} → b ≡ true → cond b far 0 ≡ far
+      picked : {b : Bool} → b ≡ true → cond b (s + length content) 0 ≡ s + length content
       picked q = rw q
 
 -- ---- how far a token can go
@@ -113,9 +83,6 @@ module _ (unguarded : Bool) (t : TokenList) (text : List ℕ) (strip : Bool) (lo
       omega arith
 
 -- ---- bytes that no content begins with
-
-pub sound_by : (begins : List ℕ) (contents : List (List ℕ)) (n : ℕ) → begins ≡ beginnings contents n → Sound begins contents
-sound_by begins contents n e = rw e (first_sound contents n)
 
 module _ (t : TokenList) (text : List ℕ) (begins : List ℕ) (sound : Sound begins (contents t)) (fine : bad_token (contents t) ≡ false) (s : ℕ) where
   other_start : (c : List ℕ) (b : ℕ) (rest : List ℕ) → is_empty c ≡ false → begins_with b c ≡ false → starts_with c (b ∷ rest) ≡ false

@@ -6,19 +6,15 @@ use mathlib.Core.Bool.{Bool, true, false, cond}
 use mathlib.Core.List.{List, [], ◌∷◌, ◌++◌}
 use borrow.Author.Tests.{lt-ltb, le-ltb}
 use lib.Dec.{leb}
-use lib.ListN.{length, take, drop, length-append, length-drop, length-take, length-replicate}
+use lib.ListN.{length, take, drop, length-append, length-drop}
 use lib.Seq.{take_at}
 use Rattle.utf8.specs.Lists.{filter, below}
 use Rattle.utf8.proofs.Counts.{count-within}
 use Rattle.utf8.proofs.Places.{length-count_from}
 use Rattle.model.specs.Answers.{zeros, done, refused, filled, Outcome, outcome}
 use Rattle.model.specs.declared.Answer.{Answer}
-use Rattle.model.specs.Model.{TokenList}
-use Rattle.units.specs.inner.Read.{named_crossings}
-use Rattle.units.specs.declared.WordSplit.{WordSplit}
 use Rattle.fragments.specs.Fragments.{cuts_from}
-use Rattle.fragments.specs.inner.Reach.{Given}
-use Rattle.fragments.specs.inner.Search.{safe_in, cuts_in, numbers_in, ranges_outcome}
+use Rattle.fragments.specs.inner.Search.{cuts_in, numbers_in, ranges_outcome}
 use Rattle.fragments.proofs.RangeLaws.{length-numbers}
 
 cuts_among : (step last : ℕ) (places : List ℕ) → length (cuts_from step last places) ≤ length places
@@ -48,27 +44,9 @@ module _ (numbers out : List ℕ) where
     pub written-long : length middle ≡ length out
     written-long = omega (arith, ap length is, length-append numbers (drop w out), length-drop w out)
 
-    pub cleared_long : (last : List ℕ) → last ≡ take w middle ++ zeros (length middle - w) → length last ≡ length out
-    cleared_long last e =
-        omega (arith, ap length e, length-append (take w middle) (zeros (length middle - w)), length-take w middle, length-replicate {A = ℕ} (length middle - w) 0, written-long)
-
     pub ranges-done : (answer : Answer) (last : List ℕ) → last ≡ take w middle ++ zeros (length middle - w) → answer ≡ done w 0 0 → ◌≡◌ {A = Outcome} (record { answer = answer; out = last }) (ranges_outcome numbers out)
     unfolding ranges_outcome outcome filled
     ranges-done answer last cleared e =
         let front : take w middle ≡ numbers = ap (take w) is ∙ take_at numbers (drop w out) w (sym all-written) in
         let left : length middle - w ≡ length out - length numbers = omega (arith, written-long) in
         rw (le-ltb (length out) (length numbers) room, e, cleared, front, left, all-written)
-
--- ---- by the words of an index
-
-module _ (pieces : List (List ℕ)) (t : TokenList) (text out : List ℕ) where
-  -- What they leave, by what they are read of.
-  abbrev pub ranges_by : WordSplit → List ℕ → ℕ → Bool → ℕ → Outcome
-  ranges_by kind noted count unguarded step = ranges_outcome (numbers_in (safe_in kind (named_crossings pieces noted count) unguarded t text) (length text) step) out
-
-  pub ranges-read : {kind kind' : WordSplit} {noted noted' : List ℕ} {count count' : ℕ} {unguarded unguarded' : Bool} {step step' : ℕ}
-      → kind ≡ kind' → noted ≡ noted' → count ≡ count' → unguarded ≡ unguarded' → step ≡ step' → ranges_by kind noted count unguarded step ≡ ranges_by kind' noted' count' unguarded' step'
-  ranges-read a b c d e = rw (a, b, c, d, e)
-
-pub given-read : {t : TokenList} {begins begins' : List ℕ} {longest longest' : ℕ} {text : List ℕ} → begins ≡ begins' → longest ≡ longest' → Given t begins' longest' text → Given t begins longest text
-given-read a b g = rw (a, b) g

@@ -1,4 +1,5 @@
 -- The first place that passes a test, and places that may be safe. Assumes nothing.
+use Rattle.std.specs.Prelude.{None, Some}
 use Prim.Native.Nat.{ℕ, zero, suc, ◌+◌, ◌-◌, ◌≤◌, ◌<◌}
 use native.Mathlib.Nat.{add-zero, eq-or-lt_of_le}
 use native.Mathlib.Numerals.{add-one}
@@ -18,11 +19,12 @@ use Rattle.model.specs.Mark.{mark, space, mark_width, starts_with_mark}
 use Rattle.units.specs.Kinds.{Crossing}
 use Rattle.units.specs.Units.{mark_cuts}
 use Rattle.units.specs.declared.WordSplit.{WordSplit}
-use Rattle.units.specs.declared.WordSplit.TheVariants.{SpaceRuns, EveryMark, None}
+use Rattle.units.specs.declared.WordSplit.TheVariants as split
 use Rattle.units.proofs.StartLaws.{no_mark_byte}
 use Rattle.fragments.specs.inner.Reach.{Edge, blocked_in}
 use Rattle.fragments.specs.inner.Search.{place_or, first_from, safe_in}
 use Rattle.fragments.proofs.ChoiceLaws.{never, second-false, lt-or-le}
+use Rattle.fragments.proofs.Bounded.{find_where}
 
 module _ (test : ℕ → Bool) (n : ℕ) where
   places_at : (p : ℕ) → p < n → count_from p (n - p) ≡ p ∷ count_from (p + 1) (n - (p + 1))
@@ -39,6 +41,24 @@ module _ (test : ℕ → Bool) (n : ℕ) where
   pub first_ended : (p : ℕ) → n ≤ p → first_from test n p ≡ n
   unfolding first_from
   first_ended p h = let none_left : n - p ≡ 0 = omega arith in rw none_left
+
+  -- A search of which the end is told apart.
+  pub sought_here : (p : ℕ) → p < n → test p ≡ true → find test (count_from p (n - p)) ≡ Some p
+  sought_here p h e = rw (places_at p h, e)
+
+  pub sought_next : (p : ℕ) → p < n → test p ≡ false → find test (count_from p (n - p)) ≡ find test (count_from (p + 1) (n - (p + 1)))
+  sought_next p h e = ap (find test) (places_at p h) ∙ rw e
+
+  pub sought_ended : (p : ℕ) → n ≤ p → find test (count_from p (n - p)) ≡ None
+  sought_ended p h = let none_left : n - p ≡ 0 = omega arith in rw none_left
+
+  pub sought_found : (p r : ℕ) → find test (count_from p (n - p)) ≡ Some r → (r < n) × (r ≡ first_from test n p)
+  unfolding first_from
+  sought_found p r e = let f = find_where test p (n - p) r e in (omega (arith, f.low, f.high), rw e)
+
+  pub sought-none : (p : ℕ) → find test (count_from p (n - p)) ≡ None → first_from test n p ≡ n
+  unfolding first_from
+  sought-none p e = rw e
 
   first_pass : (k p : ℕ) → ((q : ℕ) → p ≤ q → q < p + k → test q ≡ false) → first_from test n p ≡ first_from test n (p + k)
   first_pass zero p f = rw add-zero
@@ -106,11 +126,11 @@ mark-edge (b ∷ u) e = go (eqb 0xE2 b) refl (eqb 0x20 b) refl e
 
 cuts-mark : (kind : WordSplit) (noted : List Crossing) (text : List ℕ) (p : ℕ) → mark_cuts kind noted true text p ≡ true → starts_with_mark true (drop p text) ≡ true
 unfolding mark_cuts
-cuts-mark SpaceRuns noted text p e =
+cuts-mark split.SpaceRuns noted text p e =
     let a = starts_with_mark true (drop p text) in
     and_left a _ (and_left (a && _) _ e)
-cuts-mark EveryMark noted text p e = e
-cuts-mark None noted text p e = clash refl e
+cuts-mark split.EveryMark noted text p e = e
+cuts-mark split.None noted text p e = clash refl e
 
 pub cuts-edge : (kind : WordSplit) (noted : List Crossing) (text : List ℕ) (p : ℕ) → mark_cuts kind noted true text p ≡ true → Edge text p
 cuts-edge kind noted text p e = mark-edge (drop p text) (cuts-mark kind noted text p e)

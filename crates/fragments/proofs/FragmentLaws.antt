@@ -2,7 +2,7 @@
 use Prim.Native.Nat.{ℕ, ◌≤◌, ◌<◌, max}
 use native.Mathlib.Nat.{suc-ne-zero}
 use native.Mathlib.Omega.{arith}
-use mathlib.Core.Path.{◌≡◌, refl, sym, ap, ◌∙◌}
+use mathlib.Core.Path.{◌≡◌, refl, sym, ap, ap₂, ◌∙◌}
 use mathlib.Core.Bool.{Bool, true, false, not}
 use mathlib.Core.List.{List, [], ◌∷◌}
 use borrow.Author.Tests.{eq-eqb, ne_eqb, lt-ltb, le-ltb}
@@ -16,25 +16,23 @@ use Rattle.model.specs.Model.{Model, TokenList, strings, contents, token_at, pie
 use Rattle.model.specs.Answers.{lowest, place_of, Outcome, outcome, refused}
 use Rattle.model.specs.Check.{model_tests, check_number, check_outcome, text_too_long}
 use Rattle.model.specs.declared.Answer.{Answer}
-use Rattle.model.proofs.Accepted.{accepted}
 use Rattle.model.proofs.AnswerLaws.{lowest_later, lowest-first, tests_positive, tests_of_check, text_too_long_lem, model_bound, check_refuses, number-checked}
-use Rattle.units.specs.Kinds.{kind_of, raw_path, has_raw_path}
+use Rattle.units.specs.Kinds.{Crossing, kind_of, raw_path, has_raw_path}
 use Rattle.units.specs.Derived.{noting}
 use Rattle.units.specs.inner.Read.{named_crossings}
 use Rattle.units.specs.declared.RawPrepend.{RawPrepend}
-use Rattle.units.specs.declared.RawPath.TheVariants.{Absent, Present}
+use Rattle.units.specs.declared.WordSplit.{WordSplit}
+use Rattle.std.specs.Prelude.{None, Some}
 use Rattle.units.proofs.DerivedLaws.{marks_derived, fit-accepted, piece_sizes_fine, accepted_sizes}
-use Rattle.prepare.specs.Layout.{kind_at, crossing_count_at, crossings_at, mark_id_at, first_tokens_at, second_tokens_at, longest_content_at}
+use Rattle.prepare.specs.Layout.{kind_at, crossing_count_at, crossings_at, mark_id_at, longest_content_at}
 use Rattle.prepare.specs.inner.Read.{kind_from}
 use Rattle.prepare.specs.Prepare.{derived_index}
 use Rattle.prepare.proofs.ReadLaws.{kind-read, count-read, crossings-at, longest-at}
-use Rattle.prepare.proofs.PreparedLaws.{first_begins}
 use Rattle.sections.proofs.LengthLaws.{none-longer}
 use Rattle.fragments.specs.Safe.{is_unguarded, makes_blocks, block_start, block_end, block, blocked_by, is_blocked, is_safe}
 use Rattle.fragments.specs.Fragments.{cuts, ranges, range_numbers, fragments_number, fragments_outcome}
-use Rattle.fragments.specs.inner.Reach.{tokens_of, Longest, blocked_in, Given}
+use Rattle.fragments.specs.inner.Reach.{blocked_in}
 use Rattle.fragments.specs.inner.Search.{safe_in, cuts_in, numbers_in, ranges_outcome}
-use Rattle.fragments.proofs.FinishLaws.{ranges_by, ranges-read}
 
 -- ---- the outcome
 
@@ -53,11 +51,11 @@ module _ (m : Model) (text : List ℕ) (target : ℕ) (out : List ℕ) where
   unfolding fragments_outcome outcome place_of
   broken_text e v = rw (later e, v)
 
-  pathless : lowest (model_tests m (length text)) ≡ 0 → valid text ≡ true → raw_path m ≡ Absent → fragments_outcome m text target out ≡ refusal 10 0
+  pathless : lowest (model_tests m (length text)) ≡ 0 → valid text ≡ true → raw_path m ≡ None → fragments_outcome m text target out ≡ refusal 10 0
   unfolding fragments_outcome outcome place_of has_raw_path
   pathless e v p = rw (later e, v, p)
 
-  on_path : lowest (model_tests m (length text)) ≡ 0 → valid text ≡ true → (prepend : RawPrepend) → raw_path m ≡ Present prepend → fragments_outcome m text target out ≡ ranges_outcome (range_numbers m text target) out
+  on_path : lowest (model_tests m (length text)) ≡ 0 → valid text ≡ true → (prepend : RawPrepend) → raw_path m ≡ Some prepend → fragments_outcome m text target out ≡ ranges_outcome (range_numbers m text target) out
   unfolding fragments_outcome outcome place_of has_raw_path ranges_outcome
   on_path e v prepend p = go (ltb (length out) (length (range_numbers m text target))) refl
     where
@@ -116,10 +114,10 @@ module _ (g : Lent) where
       pub is-valid : valid g.text ≡ true
       is-valid = valid_by_prefix g.text ∙ eq-eqb (length (longest_valid_prefix g.text)) (length g.text) (sym is ∙ whole)
 
-      pub no_raw_path : (answer : Answer) → answer ≡ refused 10 0 → raw_path g.model ≡ Absent → kept answer ≡ wanted
+      pub no_raw_path : (answer : Answer) → answer ≡ refused 10 0 → raw_path g.model ≡ None → kept answer ≡ wanted
       no_raw_path answer e p = ap kept e ∙ sym (pathless g.model g.text g.target g.out (of_check h ∙ fine) is-valid p)
 
-      pub raw_text : (prepend : RawPrepend) → raw_path g.model ≡ Present prepend → ranges_outcome (range_numbers g.model g.text g.target) g.out ≡ wanted
+      pub raw_text : (prepend : RawPrepend) → raw_path g.model ≡ Some prepend → ranges_outcome (range_numbers g.model g.text g.target) g.out ≡ wanted
       raw_text prepend p = sym (on_path g.model g.text g.target g.out (of_check h ∙ fine) is-valid prepend p)
 
 -- ---- by the index of an accepted model
@@ -134,44 +132,34 @@ module _ (f g : ℕ → Bool) (agree : (p : ℕ) → f p ≡ g p) where
   numbers_agree n step = rw (filter-agrees (below n))
 
 module _ (m : Model) (fine : check_number m ≡ 0) where
-  abbrev pub first_tokens : TokenList
-  first_tokens = tokens_of m.first.bytes m.first.offsets m.first.lstrip m.first.rstrip
-
   safe_derived : (text : List ℕ) (p : ℕ)
-      → safe_in (kind_of m) (named_crossings (pieces_of m) (noting (pieces_of m) (kind_of m)).noted (noting (pieces_of m) (kind_of m)).count) (is_unguarded (raw_path m)) first_tokens text p ≡ is_safe m text p
+      → safe_in (kind_of m) (named_crossings (pieces_of m) (noting (pieces_of m) (kind_of m)).noted (noting (pieces_of m) (kind_of m)).count) (is_unguarded (raw_path m)) m.first text p ≡ is_safe m text p
   unfolding safe_in is_safe is_blocked blocked_in blocked_by block block_start block_end makes_blocks token_at contents pieces_of
   safe_derived text p =
       rw (marks_derived (pieces_of m) (fit-accepted m.piece_bytes m.piece_offsets (piece_sizes_fine m (accepted_sizes m fine))) (kind_of m) true text p)
 
   numbers_derived : (text : List ℕ) (target : ℕ)
-      → numbers_in (safe_in (kind_of m) (named_crossings (pieces_of m) (noting (pieces_of m) (kind_of m)).noted (noting (pieces_of m) (kind_of m)).count) (is_unguarded (raw_path m)) first_tokens text) (length text) (max target 1) ≡ range_numbers m text target
+      → numbers_in (safe_in (kind_of m) (named_crossings (pieces_of m) (noting (pieces_of m) (kind_of m)).noted (noting (pieces_of m) (kind_of m)).count) (is_unguarded (raw_path m)) m.first text) (length text) (max target 1) ≡ range_numbers m text target
   unfolding range_numbers ranges cuts numbers_in cuts_in
   numbers_derived text target = numbers_agree _ (is_safe m text) (safe_derived text) (length text) (max target 1)
 
   module _ {index : List ℕ} (is : index ≡ derived_index m) where
-    -- The ranges that are read of the index are the model's.
-    pub ranges_derived : (text : List ℕ) (target : ℕ) (out : List ℕ) (prepend : RawPrepend) → raw_path m ≡ Present prepend
-        → ranges_by (pieces_of m) first_tokens text out (kind_from (get_or index kind_at 0)) (slice crossings_at mark_id_at index) (get_or index crossing_count_at 0) (is_unguarded (Present prepend)) (max target 1) ≡ ranges_outcome (range_numbers m text target) out
-    ranges_derived text target out prepend p =
-        ranges-read (pieces_of m) first_tokens text out
-        (ap (λ (l : List ℕ). kind_from (get_or l kind_at 0)) is ∙ kind-read m)
-        (ap (slice crossings_at mark_id_at) is ∙ crossings-at m)
-        (ap (λ (l : List ℕ). get_or l crossing_count_at 0) is ∙ count-read m)
-        (ap is_unguarded (sym p))
-        refl
-        ∙ ap (λ (l : List ℕ). ranges_outcome l out) (numbers_derived text target)
+    -- The ranges by what is read of the index are the model's.
+    pub ranges_derived : {kind : WordSplit} {noted : List Crossing} {unguarded : Bool} {t : TokenList} {read : List ℕ} (text : List ℕ) (target : ℕ) (out : List ℕ) (prepend : RawPrepend) → raw_path m ≡ Some prepend
+        → kind ≡ kind_from (get_or index kind_at 0)
+        → noted ≡ named_crossings (strings m.piece_bytes m.piece_offsets) (slice crossings_at mark_id_at index) (get_or index crossing_count_at 0)
+        → t ≡ m.first
+        → unguarded ≡ is_unguarded (Some prepend)
+        → read ≡ text
+        → ranges_outcome (numbers_in (safe_in kind noted unguarded t read) (length read) (max target 1)) out ≡ ranges_outcome (range_numbers m text target) out
+    unfolding pieces_of
+    ranges_derived {kind} {noted} {unguarded} text target out prepend p a b c d e =
+        let as_kind : kind ≡ kind_of m = a ∙ ap (λ (l : List ℕ). kind_from (get_or l kind_at 0)) is ∙ kind-read m in
+        let as_noted : noted ≡ named_crossings (pieces_of m) (noting (pieces_of m) (kind_of m)).noted (noting (pieces_of m) (kind_of m)).count = b ∙ ap (λ (l : List ℕ). named_crossings (pieces_of m) (slice crossings_at mark_id_at l) (get_or l crossing_count_at 0)) is ∙ ap₂ (named_crossings (pieces_of m)) (crossings-at m) (count-read m) in
+        let as_path : unguarded ≡ is_unguarded (raw_path m) = d ∙ ap is_unguarded (sym p) in
+        rw (as_kind, as_noted, c, as_path, e) (ap (λ (l : List ℕ). ranges_outcome l out) (numbers_derived text target))
 
-    longest-bounds : Longest first_tokens (get_or index longest_content_at 0)
+    -- What is read of it with the first tokens is what they say.
+    pub longest-bounds : (row : ℕ) → row < length (contents m.first) → length (token_at m.first row).content ≤ get_or index longest_content_at 0
     unfolding token_at contents
-    longest-bounds =
-        record { bounds = λ row h. omega (arith, none-longer (strings m.first.bytes m.first.offsets) row, ap (λ (l : List ℕ). get_or l longest_content_at 0) is, longest-at m) }
-
-    -- What is read of it with the tokens is what they say.
-    pub given_derived : (text : List ℕ) → valid text ≡ true → Given first_tokens (slice first_tokens_at second_tokens_at index) (get_or index longest_content_at 0) text
-    unfolding contents
-    given_derived text v =
-        record {
-          fine = record { text_valid = v; contents-fine = (accepted m fine).first_texts };
-          first = first_begins m is refl;
-          long = longest-bounds;
-        }
+    longest-bounds row h = omega (arith, none-longer (strings m.first.bytes m.first.offsets) row, ap (λ (l : List ℕ). get_or l longest_content_at 0) is, longest-at m)

@@ -1,4 +1,5 @@
 -- Laws on the definitions of this crate, for its proofs and those of the crates above it.
+pub mod GivenLaws
 pub mod ChoiceLaws
 pub mod Bounded
 pub mod WhiteLaws

@@ -2,7 +2,8 @@
 -- lie too far back do not matter. Assumes nothing.
 use Prim.Native.Nat.{ℕ, ◌+◌, ◌-◌, ◌≤◌, ◌<◌, max}
 use native.Mathlib.Omega.{arith}
-use mathlib.Core.Path.{◌≡◌, refl, ap, ◌∙◌}
+use Rattle.std.specs.Prelude.{Option, None, Some}
+use mathlib.Core.Path.{◌≡◌, refl, sym, ap, ◌∙◌}
 use mathlib.Core.Bool.{Bool, true, false, cond, ◌&&◌}
 use mathlib.Core.Logic.{⊎_elim}
 use mathlib.Core.List.{List}
@@ -13,7 +14,8 @@ use Rattle.utf8.proofs.Tests.{either, and_left, and_both}
 use Rattle.model.specs.Model.{TokenList, contents, token_at}
 use Rattle.sections.specs.inner.Strips.{stop_at}
 use Rattle.fragments.specs.Safe.{block_end}
-use Rattle.fragments.specs.inner.Reach.{Edge, Fine, Longest, is_as, plain_far, strip_far, furthest, reach, end_of, end_at, end_between}
+use Rattle.fragments.specs.inner.Reach.{Edge, is_as, plain_far, strip_far, furthest, reach, end_of, end_at, end_between}
+use Rattle.fragments.proofs.GivenLaws.{Fine, Longest}
 use Rattle.fragments.proofs.ChoiceLaws.{lt-or-le, chosen}
 use Rattle.fragments.proofs.Bounded.{most_here}
 use Rattle.fragments.proofs.WhiteLaws.{trimmed, white_end, trimmed_le, trims_behind, same_end, stops_at}
@@ -154,19 +156,31 @@ module _ (unguarded : Bool) (t : TokenList) (text : List ℕ) where
         go true e = omega (arith, plain_reached, strip_reached (ltb-true 0 strip (and_left (ltb 0 strip) (leb stop strip) e)))
         go false e = omega (arith, plain_reached)
 
+    -- How far they reach, where that is p or further.
+    abbrev pub reaching : ℕ → Option ℕ
+    reaching n = cond (leb p n) (Some n) None
+
     -- So where blocks reach p, the look back finds how far they go.
-    pub looked_back : cond (leb p (furthest unguarded text stop plain strip)) (furthest unguarded text stop plain strip) 0 ≡ cond (leb p (reach unguarded t text at p)) (reach unguarded t text at p) 0
+    looked_back : reaching (furthest unguarded text stop plain strip) ≡ reaching (reach unguarded t text at p)
     looked_back =
         ⊎_elim (λ (q : furthest unguarded text stop plain strip < p). rw (lt-leb p (furthest unguarded text stop plain strip) q, lt-leb p (reach unguarded t text at p) (omega (arith, most_far))))
         (λ (q : p ≤ furthest unguarded text stop plain strip). let same : furthest unguarded text stop plain strip ≡ reach unguarded t text at p = omega (arith, most_far, furthest_reached) in rw same)
         (lt-or-le (furthest unguarded text stop plain strip) p)
 
     -- The same, of the numbers that were found one after the other.
-    pub found_back : (s f a b : ℕ) → s ≡ stop_at true text at p → f ≡ max at (s - longest) → a ≡ end_between unguarded t text false f p → b ≡ end_between unguarded t text true f p
-        → cond (leb p (furthest unguarded text s a b)) (furthest unguarded text s a b) 0 ≡ cond (leb p (reach unguarded t text at p)) (reach unguarded t text at p) 0
-    found_back s f a b is_stop is-from is_plain is-strip =
-        let same_stop : s ≡ stop = is_stop ∙ stops_at text at p l inside ea ep in
-        let same_from : f ≡ from = is-from ∙ ap (λ (n : ℕ). max at (n - longest)) same_stop in
-        let same-plain : a ≡ plain = is_plain ∙ ap (λ (n : ℕ). end_between unguarded t text false n p) same_from in
-        let same-strip : b ≡ strip = is-strip ∙ ap (λ (n : ℕ). end_between unguarded t text true n p) same_from in
-        rw (same_stop, same-plain, same-strip) looked_back
+    module _ (s f a b n : ℕ) (is_stop : s ≡ stop_at true text at p) (is-from : f ≡ max at (s - longest)) (is_plain : a ≡ end_between unguarded t text false f p) (is-strip : b ≡ end_between unguarded t text true f p)
+        (is : n ≡ max (plain_far unguarded a) (strip_far text s b)) where
+      found : reaching n ≡ reaching (reach unguarded t text at p)
+      unfolding furthest
+      found =
+          let same_stop : s ≡ stop = is_stop ∙ stops_at text at p l inside ea ep in
+          let same_from : f ≡ from = is-from ∙ ap (λ (n : ℕ). max at (n - longest)) same_stop in
+          let same-plain : a ≡ plain = is_plain ∙ ap (λ (n : ℕ). end_between unguarded t text false n p) same_from in
+          let same-strip : b ≡ strip = is-strip ∙ ap (λ (n : ℕ). end_between unguarded t text true n p) same_from in
+          rw (is, same_stop, same-plain, same-strip) looked_back
+
+      pub found_far : p ≤ n → Some n ≡ reaching (reach unguarded t text at p)
+      found_far h = sym (rw (le-leb p n h)) ∙ found
+
+      pub found_near : n < p → None ≡ reaching (reach unguarded t text at p)
+      found_near h = sym (rw (lt-leb p n h)) ∙ found

@@ -1,44 +1,30 @@
 -- What the look back and the search ahead say of a place. Assumes nothing.
+use Rattle.std.specs.Prelude.{None, Some}
+use Rattle.std.proofs.lemmas.Option.{none-some, same_Some}
 use Prim.Native.Nat.{ℕ, suc, ◌+◌, ◌-◌, ◌≤◌, ◌<◌, max}
 use native.Mathlib.Omega.{arith}
 use mathlib.Core.Path.{◌≡◌, refl, sym, ap, ◌∙◌}
 use mathlib.Core.Bool.{Bool, true, false, cond}
 use mathlib.Core.Logic.{⊎_elim}
-use mathlib.Core.List.{List, []}
-use mathlib.Core.Option.{none, some}
+use mathlib.Core.List.{List}
 use borrow.Author.Tests.{leb-true, leb-false}
 use lib.Dec.{leb}
 use lib.ListN.{length, drop}
 use Rattle.utf8.specs.Lists.{find, count_from}
-use Rattle.utf8.proofs.Tests.{either}
-use Rattle.model.specs.Check.{bad_token}
-use Rattle.model.specs.Model.{TokenList, contents, token_at}
+use Rattle.model.specs.Model.{TokenList, token_at}
 use Rattle.sections.specs.Sections.{white_length}
 use Rattle.sections.specs.inner.Strips.{start_at}
 use Rattle.fragments.specs.Safe.{block_end}
 use Rattle.fragments.specs.inner.Most.{most}
-use Rattle.fragments.specs.inner.Reach.{tokens_of, Edge, Fine, places_ahead, stands_at, strips_at, blocked_ahead, reach_at, reach}
+use Rattle.fragments.specs.inner.Reach.{Edge, places_ahead, strips_at, blocked_ahead, reach_at, reach}
+use Rattle.fragments.proofs.GivenLaws.{Fine}
 use Rattle.fragments.specs.inner.Search.{Known, BlockedTo, FreeAt}
-use Rattle.fragments.proofs.ChoiceLaws.{lt-or-le, positive}
+use Rattle.fragments.proofs.ChoiceLaws.{lt-or-le}
 use Rattle.fragments.proofs.Bounded.{most-split, find_where, find-nothing}
 use Rattle.fragments.proofs.WhiteLaws.{white_end, white_end-le}
 use Rattle.fragments.proofs.BlockLaws.{standing, Reaching, reach_where, reach_blocks, ahead_blocks, free, ahead_kept}
 
--- ---- a list without its rstrip column says the same of lstrip
-
-module _ (bytes offsets : List ℕ) (lstrip rstrip : List Bool) (text : List ℕ) where
-  pub strips-left : strips_at (tokens_of bytes offsets lstrip []) text ≡ strips_at (tokens_of bytes offsets lstrip rstrip) text
-  unfolding strips_at token_at contents stands_at
-  strips-left = refl
-
-  pub contents-left : contents (tokens_of bytes offsets lstrip []) ≡ contents (tokens_of bytes offsets lstrip rstrip)
-  unfolding contents
-  contents-left = refl
-
-  pub fine-left : Fine (tokens_of bytes offsets lstrip rstrip) text → Fine (tokens_of bytes offsets lstrip []) text
-  fine-left f = record { text_valid = f.text_valid; contents-fine = ap bad_token contents-left ∙ f.contents-fine }
-
-ahead_nothing : (t : TokenList) (text : List ℕ) (p : ℕ) → find (strips_at t text) (places_ahead text p) ≡ none → blocked_ahead t text p ≡ false
+ahead_nothing : (t : TokenList) (text : List ℕ) (p : ℕ) → find (strips_at t text) (places_ahead text p) ≡ None → blocked_ahead t text p ≡ false
 unfolding blocked_ahead
 ahead_nothing t text p e = find-nothing (strips_at t text) (places_ahead text p) e
 
@@ -86,24 +72,28 @@ module _ {unguarded : Bool} {t : TokenList} {text : List ℕ} {at ahead p : ℕ}
   here = reach unguarded t text at p
 
   -- It is blocked from before it,
-  pub judged_back : (r : ℕ) → r ≡ cond (leb p here) here 0 → (r ≡ 0 → ⊥) → BlockedTo unguarded t text p r
-  judged_back r e more =
-      let yes : leb p here ≡ true = positive (leb p here) here (omega (arith, e, more)) in
-      let is : r ≡ here = e ∙ rw yes in
-      let far : p ≤ here = leb-true p here yes in
-      record {
-        low = omega arith;
-        high = omega (arith, reach-within unguarded t text l.fine at p);
-        all_blocked = λ q h k. reach_blocks unguarded t text l.fine at p q l.above h (omega arith);
-        past = omega (arith, reach_split unguarded t text at p l.known.low, l.known.past);
-      }
+  pub judged_back : (r : ℕ) → cond (leb p here) (Some here) None ≡ Some r → BlockedTo unguarded t text p r
+  judged_back r e = go (leb p here) refl e
+    where
+      go : (b : Bool) → leb p here ≡ b → cond b (Some here) None ≡ Some r → BlockedTo unguarded t text p r
+      go false n e = absurd (none-some r e)
+      go true q e =
+          let is : here ≡ r = same_Some here r e in
+          let far : p ≤ here = leb-true p here q in
+          record {
+            low = omega arith;
+            high = omega (arith, reach-within unguarded t text l.fine at p);
+            all_blocked = λ q h k. reach_blocks unguarded t text l.fine at p q l.above h (omega arith);
+            past = omega (arith, reach_split unguarded t text at p l.known.low, l.known.past);
+          }
 
   -- or not:
-  pub not_back : (r : ℕ) → r ≡ cond (leb p here) here 0 → r ≡ 0 → reach unguarded t text 0 p < p
-  not_back r e z = ⊎_elim (λ y. absurd (omega (arith, leb-true p here y, zero y))) (λ y. omega (arith, leb-false p here y, reach_split unguarded t text at p l.known.low, l.known.past)) (either (leb p here))
+  pub not_back : cond (leb p here) (Some here) None ≡ None → reach unguarded t text 0 p < p
+  not_back e = go (leb p here) refl e
     where
-      zero : leb p here ≡ true → here ≡ 0
-      zero y = sym (rw y at e) ∙ z
+      go : (b : Bool) → leb p here ≡ b → cond b (Some here) None ≡ None → reach unguarded t text 0 p < p
+      go true y e = absurd (none-some here (sym e))
+      go false n e = omega (arith, leb-false p here n, reach_split unguarded t text at p l.known.low, l.known.past)
 
   module _ (short : reach unguarded t text 0 p < p) where
     -- it may be known that it has no token ahead,
@@ -115,7 +105,7 @@ module _ {unguarded : Bool} {t : TokenList} {text : List ℕ} {at ahead p : ℕ}
         }
 
     -- or one is found,
-    pub judged_ahead : (s : ℕ) → find (strips_at t text) (places_ahead text p) ≡ some s → BlockedTo unguarded t text p s
+    pub judged_ahead : (s : ℕ) → find (strips_at t text) (places_ahead text p) ≡ Some s → BlockedTo unguarded t text p s
     unfolding places_ahead
     judged_ahead s e =
         let f = find_where (strips_at t text) p (suc (white_length (drop p text))) s e in
@@ -128,7 +118,7 @@ module _ {unguarded : Bool} {t : TokenList} {text : List ℕ} {at ahead p : ℕ}
         }
 
     -- or there is none.
-    pub judged_free : (end : ℕ) → find (strips_at t text) (places_ahead text p) ≡ none → end ≡ start_at true text p → FreeAt unguarded t text p (end + 1)
+    pub judged_free : (end : ℕ) → find (strips_at t text) (places_ahead text p) ≡ None → end ≡ start_at true text p → FreeAt unguarded t text p (end + 1)
     unfolding start_at
     judged_free end e is =
         let none_ahead : blocked_ahead t text p ≡ false = ahead_nothing t text p e in

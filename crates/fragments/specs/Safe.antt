@@ -1,21 +1,20 @@
 -- Safe places: where a text may be cut into fragments.
-use Rattle.std.specs.Prelude.{ℕ, ◌+◌, ◌-◌, Bool, true, false, not, cond, ◌&&◌, ◌||◌, List, eqb, ltb, length, take, drop}
+use Rattle.std.specs.Prelude.{ℕ, ◌+◌, ◌-◌, Bool, true, false, not, cond, ◌&&◌, ◌||◌, List, eqb, ltb, length, take, drop, Option, None, Some}
 use Rattle.utf8.specs.Lists.{any, below, starts_with, within, Range}
 use Rattle.utf8.specs.WhiteSpace.{trim_end}
 use Rattle.model.specs.Model.{Model, Token, contents, token_at, pieces_of}
 use Rattle.units.specs.Kinds.{crossings, kind_of, raw_path}
 use Rattle.units.specs.Units.{mark_cuts}
+use Rattle.units.specs.declared.RawPrepend.{RawPrepend}
 use Rattle.units.specs.declared.RawPrepend.TheVariants as prepend
-use Rattle.units.specs.declared.RawPath.{RawPath}
-use Rattle.units.specs.declared.RawPath.TheVariants as raw
 use Rattle.sections.specs.Sections.{white_length}
 
-unfoldable pub is_unguarded : RawPath → Bool
-is_unguarded raw.Absent = false
-is_unguarded (raw.Present prepend.Never) = false
-is_unguarded (raw.Present prepend.Unguarded) = true
-is_unguarded (raw.Present prepend.GuardedAlways) = false
-is_unguarded (raw.Present prepend.GuardedFirst) = false
+unfoldable pub is_unguarded : Option RawPrepend → Bool
+is_unguarded None = false
+is_unguarded (Some prepend.Never) = false
+is_unguarded (Some prepend.Unguarded) = true
+is_unguarded (Some prepend.GuardedAlways) = false
+is_unguarded (Some prepend.GuardedFirst) = false
 
 -- Rule 11.4: the token blocks places.
 unfoldable pub makes_blocks : Bool → Token → Bool

@@ -2,3 +2,4 @@
 pub mod Most
 pub mod Reach
 pub mod Search
+pub mod Places

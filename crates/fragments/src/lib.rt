@@ -8,24 +8,44 @@ mod ends;
 mod finish;
 mod next;
 mod ranges;
-mod raw;
+mod read;
 
-ghost use Rattle.std.specs.Prelude.{◌≡◌};
-ghost use Rattle.model.specs.Answers.{Outcome};
-ghost use Rattle.model.specs.Check.{check_number};
-ghost use Rattle.model.specs.Model.{model_of, token_list};
+ghost use Rattle.std.specs.Prelude.{◌≡◌, ℕ, true, false, ◌<◌, ◌≤◌, length};
+ghost use Rattle.utf8.specs.Chars.{valid};
+ghost use Rattle.model.specs.Answers.{Outcome, answer_of};
+ghost use Rattle.model.specs.Check.{check_number, bad_token};
+ghost use Rattle.model.specs.Model.{columns, tokens_of, contents, token_at};
+ghost use Rattle.sections.specs.Beginnings.{beginnings};
 ghost use Rattle.prepare.specs.Prepare.{derived_adjacency, derived_index};
 ghost use Rattle.fragments.specs.Fragments.{fragments_outcome};
 
-use model::tables::number_at;
-use model::{Answer, Metaspace, Step};
-use prepare::numbers::raw_path_from;
-use prepare::prepare_checked;
-use raw::fragments_raw;
-use units::RawPath;
+use finish::cut_ranges;
+use model::{AddedTokens, Counts, Model, Refusal};
+use prepare::{Prepared, prepare_checked};
+use read::places_of;
+use units::Cutter;
 use utf8::chars::valid_prefix;
 
-// Whether a place is blocked.
+// What decides which places of a text are safe.
+#[derive(Clone, Copy)]
+pub(crate) struct Places<'a> {
+    pub cutter: Cutter<'a>,
+    // The tokens whose occurrences block places.
+    pub tokens: AddedTokens<'a>,
+    // For each byte whether a content begins with it.
+    pub begins: &'a [u32],
+    // No content is longer.
+    pub longest: usize,
+    pub unguarded: bool,
+    pub text: &'a [u8],
+    ghost contents_fine: { bad_token (contents (tokens_of tokens)) ≡ false },
+    ghost first: { begins.now ≡ beginnings (contents (tokens_of tokens)) (length begins.now) },
+    ghost long: { (row : ℕ) → row < length (contents (tokens_of tokens)) → length (token_at (tokens_of tokens) row).content ≤ longest },
+    ghost text_valid: { valid text.now ≡ true },
+    ghost short: { length text.now ≤ 1048576 },
+}
+
+// Whether a place is blocked. It is no Result: neither answer is a failure.
 #[derive(Clone, Copy)]
 pub(crate) enum Verdict {
     // It is, and so are all places behind it up to this one.
@@ -43,180 +63,49 @@ pub(crate) struct Cut {
 
 // `fragments` on a model that `model::check` accepts, with the two rows that `prepare` derives of it.
 pub fn fragments_prepared(
-    piece_bytes: &[u8],
-    piece_offsets: &[u32],
-    lookup: &[u32],
-    fallback: &[u32],
-    left: &[u32],
-    right: &[u32],
-    res: &[u32],
-    rank: &[u32],
-    first_bytes: &[u8],
-    first_offsets: &[u32],
-    first_ids: &[u32],
-    first_lstrip: &[bool],
-    first_rstrip: &[bool],
-    second_bytes: &[u8],
-    second_offsets: &[u32],
-    second_ids: &[u32],
-    second_lstrip: &[bool],
-    second_rstrip: &[bool],
-    step_bytes: &[u8],
-    steps: [Step; 16],
-    step_count: usize,
-    metaspace: Metaspace,
-    adjacency: &[u64],
-    index: &[u32],
+    prepared: &Prepared<'_>,
     text: &[u8],
     target: usize,
     out: &mut [u32],
-) -> Answer
-    requires accepted { check_number (model_of piece_bytes.now piece_offsets.now lookup.now fallback.now left.now right.now res.now rank.now (token_list first_bytes.now first_offsets.now first_ids.now first_lstrip.now first_rstrip.now) (token_list second_bytes.now second_offsets.now second_ids.now second_lstrip.now second_rstrip.now) step_bytes.now steps step_count metaspace) ≡ 0 }
-    requires adjacency_derived { adjacency.now ≡ derived_adjacency (model_of piece_bytes.now piece_offsets.now lookup.now fallback.now left.now right.now res.now rank.now (token_list first_bytes.now first_offsets.now first_ids.now first_lstrip.now first_rstrip.now) (token_list second_bytes.now second_offsets.now second_ids.now second_lstrip.now second_rstrip.now) step_bytes.now steps step_count metaspace) }
-    requires index_derived { index.now ≡ derived_index (model_of piece_bytes.now piece_offsets.now lookup.now fallback.now left.now right.now res.now rank.now (token_list first_bytes.now first_offsets.now first_ids.now first_lstrip.now first_rstrip.now) (token_list second_bytes.now second_offsets.now second_ids.now second_lstrip.now second_rstrip.now) step_bytes.now steps step_count metaspace) }
-    ensures { ◌≡◌ {A = Outcome} (record { answer = result; out = out.new }) (fragments_outcome (model_of piece_bytes.now piece_offsets.now lookup.now fallback.now left.now right.now res.now rank.now (token_list first_bytes.now first_offsets.now first_ids.now first_lstrip.now first_rstrip.now) (token_list second_bytes.now second_offsets.now second_ids.now second_lstrip.now second_rstrip.now) step_bytes.now steps step_count metaspace) text.now target out.old) }
+) -> Result<Counts, Refusal>
+    requires accepted { check_number (columns prepared.now.model.now) ≡ 0 }
+    requires adjacency_derived { prepared.now.adjacency.now ≡ derived_adjacency (columns prepared.now.model.now) }
+    requires index_derived { prepared.now.index.now ≡ derived_index (columns prepared.now.model.now) }
+    ensures { ◌≡◌ {A = Outcome} (record { answer = answer_of result; out = out.new }) (fragments_outcome (columns prepared.now.model.now) text.now target out.old) }
 {
     if model::TEXT_LIMIT < text.len() {
-        return Answer::refused(model::WRONG_SIZE, 0);
+        return Err(Refusal::WrongSize);
     }
-    let prefix = valid_prefix(text);
-    if prefix != text.len() {
-        return Answer::refused(model::BAD_TEXT, prefix);
+    let place = valid_prefix(text);
+    if place != text.len() {
+        return Err(Refusal::BadText { place });
     }
-    let path = raw_path_from(number_at(index, prepare::RAW_PATH_AT));
-    match path {
-        RawPath::Present(prepend) => fragments_raw(
-            index,
-            piece_bytes,
-            piece_offsets,
-            first_bytes,
-            first_offsets,
-            first_lstrip,
-            first_rstrip,
-            prepend,
-            text,
-            target,
-            out,
-        ),
-        RawPath::Absent => Answer::refused(model::NO_RAW_PATH, 0),
+    match prepared.raw_path() {
+        Some(prepend) => cut_ranges(&places_of(prepared, prepend, text), target, out),
+        None => Err(Refusal::NoRawPath),
     }
 }
 
 // The ranges of a text that may be encoded apart, none but the last shorter than `target`.
 pub fn fragments(
-    piece_bytes: &[u8],
-    piece_offsets: &[u32],
-    lookup: &[u32],
-    fallback: &[u32],
-    left: &[u32],
-    right: &[u32],
-    res: &[u32],
-    rank: &[u32],
-    first_bytes: &[u8],
-    first_offsets: &[u32],
-    first_ids: &[u32],
-    first_lstrip: &[bool],
-    first_rstrip: &[bool],
-    second_bytes: &[u8],
-    second_offsets: &[u32],
-    second_ids: &[u32],
-    second_lstrip: &[bool],
-    second_rstrip: &[bool],
-    step_bytes: &[u8],
-    steps: [Step; 16],
-    step_count: usize,
-    metaspace: Metaspace,
+    model: &Model<'_>,
     text: &[u8],
     target: usize,
     out: &mut [u32],
-) -> Answer
-    ensures { ◌≡◌ {A = Outcome} (record { answer = result; out = out.new }) (fragments_outcome (model_of piece_bytes.now piece_offsets.now lookup.now fallback.now left.now right.now res.now rank.now (token_list first_bytes.now first_offsets.now first_ids.now first_lstrip.now first_rstrip.now) (token_list second_bytes.now second_offsets.now second_ids.now second_lstrip.now second_rstrip.now) step_bytes.now steps step_count metaspace) text.now target out.old) }
+) -> Result<Counts, Refusal>
+    ensures { ◌≡◌ {A = Outcome} (record { answer = answer_of result; out = out.new }) (fragments_outcome (columns model.now) text.now target out.old) }
 {
     if model::TEXT_LIMIT < text.len() {
-        return Answer::refused(model::WRONG_SIZE, 0);
+        return Err(Refusal::WrongSize);
     }
-    let checked = model::check(
-        piece_bytes,
-        piece_offsets,
-        lookup,
-        fallback,
-        left,
-        right,
-        res,
-        rank,
-        first_bytes,
-        first_offsets,
-        first_ids,
-        first_lstrip,
-        first_rstrip,
-        second_bytes,
-        second_offsets,
-        second_ids,
-        second_lstrip,
-        second_rstrip,
-        step_bytes,
-        steps,
-        step_count,
-        metaspace,
-    );
-    if checked.number != 0 {
-        return checked;
-    }
+    model::check(model)?;
     let mut adjacency = [0u64; prepare::ADJACENCY_LEN];
     let mut index = [0u32; prepare::INDEX_LEN];
-    prepare_checked(
-        piece_bytes,
-        piece_offsets,
-        lookup,
-        fallback,
-        left,
-        right,
-        res,
-        rank,
-        first_bytes,
-        first_offsets,
-        first_ids,
-        first_lstrip,
-        first_rstrip,
-        second_bytes,
-        second_offsets,
-        second_ids,
-        second_lstrip,
-        second_rstrip,
-        step_bytes,
-        steps,
-        step_count,
-        metaspace,
-        &mut adjacency,
-        &mut index,
-    );
-    fragments_prepared(
-        piece_bytes,
-        piece_offsets,
-        lookup,
-        fallback,
-        left,
-        right,
-        res,
-        rank,
-        first_bytes,
-        first_offsets,
-        first_ids,
-        first_lstrip,
-        first_rstrip,
-        second_bytes,
-        second_offsets,
-        second_ids,
-        second_lstrip,
-        second_rstrip,
-        step_bytes,
-        steps,
-        step_count,
-        metaspace,
-        &adjacency,
-        &index,
-        text,
-        target,
-        out,
-    )
+    prepare_checked(model, &mut adjacency, &mut index)?;
+    let prepared = Prepared {
+        model,
+        adjacency: &adjacency,
+        index: &index,
+    };
+    fragments_prepared(&prepared, text, target, out)
 }

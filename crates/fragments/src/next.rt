@@ -1,150 +1,70 @@
 // The search for the next safe place.
-ghost use Rattle.std.specs.Prelude.{◌≡◌, true, ◌||◌, ◌<◌, eqb, length};
-ghost use Rattle.model.specs.Model.{strings};
+ghost use Rattle.std.specs.Prelude.{◌≡◌, true, ◌-◌, ◌<◌, length};
+ghost use Rattle.utf8.specs.Lists.{find, count_from};
+ghost use Rattle.model.specs.Model.{tokens_of};
 ghost use Rattle.units.specs.Units.{mark_cuts};
-ghost use Rattle.units.specs.inner.Read.{named_crossings};
-ghost use Rattle.fragments.specs.inner.Reach.{tokens_of, Edge, Given};
-ghost use Rattle.fragments.specs.inner.Search.{first_from, Known, Judged, NextCut};
+ghost use Rattle.units.specs.inner.Read.{crossings_in};
+ghost use Rattle.fragments.specs.inner.Reach.{Edge};
+ghost use Rattle.fragments.specs.inner.Search.{Judged};
+ghost use Rattle.fragments.specs.inner.Places.{KnownIn, NextIn};
 
-use crate::ahead::strip_ahead;
-use crate::back::look_back;
-use crate::{Cut, Verdict};
-use model::Found;
+use crate::ends::may_cut;
+use crate::{Cut, Places, Verdict};
 use sections::strips::start_after;
-use units::WordSplit;
-use units::cut::mark_cuts;
 
-// Whether the byte is a space or begins a mark.
-fn may_cut(b: u8) -> bool
-    ensures { result ≡ (eqb b 0x20 || eqb b 0xE2) }
-{
-    if b == 0x20 {
-        return true;
-    }
-    b == 0xE2
-}
-
-// The first place from `from` on at which a mark or space would begin a unit, or the end of the text.
-fn next_mark(
-    kind: WordSplit,
-    piece_bytes: &[u8],
-    piece_offsets: &[u32],
-    noted: &[u32],
-    count: usize,
-    text: &[u8],
-    from: usize,
-) -> usize
-    ensures { result ≡ first_from (mark_cuts kind (named_crossings (strings piece_bytes.now piece_offsets.now) noted.now count) true text.now) (length text.now) from }
-{
-    let mut p = from;
-    while p < text.len() {
-        if may_cut(text[p]) {
-            if mark_cuts(
-                kind,
-                piece_bytes,
-                piece_offsets,
-                noted,
-                count,
-                true,
-                text,
-                p,
-            ) {
-                return p;
-            }
-            p += 1;
-        } else {
-            p += 1;
+impl Places<'_> {
+    // Whether `p` is blocked: from before it, or by a token ahead of it.
+    fn judge(&self, last: Cut, p: usize) -> Verdict
+        requires p_nonzero { (0 < p) × (p < length self.now.text.now) }
+        requires edge { Edge self.now.text.now p }
+        requires known { KnownIn self.now last p }
+        ensures { Judged self.now.unguarded (tokens_of self.now.tokens) self.now.text.now p result }
+    {
+        if let Some(end) = self.look_back(last.place, p) {
+            return Verdict::Blocked(end);
+        }
+        if p < last.ahead {
+            return Verdict::Free(last.ahead);
+        }
+        match self.strip_ahead(p) {
+            Some(s) => Verdict::Blocked(s),
+            None => Verdict::Free(start_after(true, self.text, p) + 1),
         }
     }
-    text.len()
-}
 
-// Whether `p` is blocked: from before it, or by a token ahead of it.
-fn judge(
-    bytes: &[u8],
-    offsets: &[u32],
-    lstrip: &[bool],
-    rstrip: &[bool],
-    begins: &[u32],
-    longest: usize,
-    unguarded: bool,
-    text: &[u8],
-    at: usize,
-    ahead: usize,
-    p: usize,
-) -> Verdict
-    requires p_nonzero { (0 < p) × (p < length text.now) }
-    requires edge { Edge text.now p }
-    requires given { Given (tokens_of bytes.now offsets.now lstrip.now rstrip.now) begins.now longest text.now }
-    requires known { Known unguarded (tokens_of bytes.now offsets.now lstrip.now rstrip.now) text.now at ahead p }
-    ensures { Judged unguarded (tokens_of bytes.now offsets.now lstrip.now rstrip.now) text.now p result }
-{
-    let back = look_back(
-        bytes, offsets, lstrip, rstrip, begins, longest, unguarded, text, at, p,
-    );
-    if back != 0 {
-        return Verdict::Blocked(back);
-    }
-    if p < ahead {
-        return Verdict::Free(ahead);
-    }
-    match strip_ahead(bytes, offsets, lstrip, begins, text, p) {
-        Found::At(s) => Verdict::Blocked(s),
-        Found::Nothing => {
-            let end = start_after(true, text, p);
-            Verdict::Free(end + 1)
-        }
-    }
-}
-
-// The first safe place from `from` on, or the end of the text.
-pub fn next_cut(
-    kind: WordSplit,
-    piece_bytes: &[u8],
-    piece_offsets: &[u32],
-    noted: &[u32],
-    count: usize,
-    bytes: &[u8],
-    offsets: &[u32],
-    lstrip: &[bool],
-    rstrip: &[bool],
-    begins: &[u32],
-    longest: usize,
-    unguarded: bool,
-    text: &[u8],
-    last: usize,
-    ahead: usize,
-    from: usize,
-) -> Cut
-    requires from_nonzero { 0 < from }
-    requires given { Given (tokens_of bytes.now offsets.now lstrip.now rstrip.now) begins.now longest text.now }
-    requires known { Known unguarded (tokens_of bytes.now offsets.now lstrip.now rstrip.now) text.now last ahead from }
-    ensures { NextCut kind (named_crossings (strings piece_bytes.now piece_offsets.now) noted.now count) unguarded (tokens_of bytes.now offsets.now lstrip.now rstrip.now) text.now from result }
-{
-    let mut at = last;
-    let mut clear = ahead;
-    let mut p = from;
-    let place = 'search: loop {
-        let mark = next_mark(kind, piece_bytes, piece_offsets, noted, count, text, p);
-        if text.len() <= mark {
-            break 'search mark;
-        }
-        match judge(
-            bytes, offsets, lstrip, rstrip, begins, longest, unguarded, text, at, clear, mark,
-        ) {
-            Verdict::Blocked(end) => {
-                at = mark;
-                p = end + 1;
-                continue 'search;
-            }
-            Verdict::Free(end) => {
-                clear = end;
-                break 'search mark;
+    // The first place from `from` on at which a mark or space would begin a unit.
+    fn next_mark(&self, from: usize) -> Option<usize>
+        ensures { result ≡ find (mark_cuts self.now.cutter.kind (crossings_in self.now.cutter) true self.now.text.now) (count_from from (length self.now.text.now - from)) }
+    {
+        for p in from..self.text.len() {
+            if may_cut(self.text[p]) && self.cutter.mark_cuts(true, self.text, p) {
+                return Some(p);
             }
         }
-    };
-    Cut {
-        place,
-        ahead: clear,
+        None
+    }
+
+    // The first safe place from `from` on.
+    pub fn next_cut(&self, mut last: Cut, from: usize) -> Option<Cut>
+        requires from_nonzero { 0 < from }
+        requires known { KnownIn self.now last from }
+        ensures { NextIn self.now from result }
+    {
+        let mut p = from;
+        while let Some(mark) = self.next_mark(p) {
+            match self.judge(last, mark) {
+                Verdict::Blocked(end) => {
+                    last.place = mark;
+                    p = end + 1;
+                }
+                Verdict::Free(end) => {
+                    return Some(Cut {
+                        place: mark,
+                        ahead: end,
+                    });
+                }
+            }
+        }
+        None
     }
 }

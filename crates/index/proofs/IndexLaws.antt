@@ -1,8 +1,9 @@
 -- Searches that begin from what is derived of an accepted model find what the whole tables hold.
+use Rattle.std.specs.Prelude.{Option, None, Some, is_some}
+use Rattle.std.specs.declared.cmp.Ordering.TheVariants.{Less, Greater}
 use mathlib.Core.Path.{◌≡◌, refl, sym, ap, ◌∙◌}
 use mathlib.Core.Bool.{Bool, true, false, cond, ◌&&◌}
 use mathlib.Core.List.{List, [], ◌∷◌}
-use mathlib.Core.Option.{Option, none, some}
 use Prim.Native.Nat.{ℕ, ◌+◌, ◌*◌, ◌/◌, ◌^◌, ◌≤◌, ◌<◌, min}
 use native.Mathlib.Nat.{not-suc-le-zero, min-eq_left, zero-add, add_assoc, div-mul-le_self, div-lt_iff_lt-mul, mul-le-mul_right}
 use native.Mathlib.Omega.{arith}
@@ -19,11 +20,8 @@ use Rattle.utf8.proofs.Fronts.{front-within, front_passes, front-ended, front-pa
 use Rattle.model.specs.Model.{Model, piece, lookup_id, no_id, pieces_of, merge_rows, row_of}
 use Rattle.model.specs.Mark.{mark}
 use Rattle.model.specs.ByteOrder.{byte_order}
-use Rattle.model.specs.inner.Search.{searched, piece_order, found_piece, id_at, row_order, pair_order, found_row, row_found, is_at}
+use Rattle.model.specs.inner.Search.{searched, piece_order, found_piece, id_at, row_order, pair_order, found_row, row_found}
 use Rattle.model.specs.Check.{names_no_piece, lookup_ascends, rows_ascend, all_below}
-use Rattle.model.specs.declared.Order.TheVariants.{Less, Greater}
-use Rattle.model.specs.declared.Found.{Found}
-use Rattle.model.specs.declared.Found.TheVariants.{At, Nothing}
 use Rattle.model.proofs.OrderLaws.{is_equal, by_below, or_less, or-greater, never, equal_is, order_turned, turned}
 use Rattle.model.proofs.SearchLaws.{found_below, found_equal, equal_found, part-searched}
 use Rattle.model.proofs.LookupLaws.{entries_rise, pieces_fall, id_found}
@@ -37,24 +35,24 @@ use Rattle.index.proofs.PairLaws.{among, among_all, none_beyond, kept, fails_kep
 
 -- ---- ids as numbers
 
-no_none {ℓ} : {A : Type ℓ} {x : ℕ} → ◌≡◌ {A = Option ℕ} none (some x) → A
+no_none {ℓ} : {A : Type ℓ} {x : ℕ} → ◌≡◌ {A = Option ℕ} None (Some x) → A
 no_none e = let z : ◌≡◌ {A = ℕ} 0 1 = cc in absurd (omega arith)
 
 -- What is found is of the list: what no element passes it does not pass.
-found_fails : (test other : ℕ → Bool) (xs : List ℕ) (x : ℕ) → find test xs ≡ some x → any other xs ≡ false → other x ≡ false
+found_fails : (test other : ℕ → Bool) (xs : List ℕ) (x : ℕ) → find test xs ≡ Some x → any other xs ≡ false → other x ≡ false
 found_fails test other [] x e n = no_none e
 found_fails test other (y ∷ ys) x e n = go (test y) refl (λ f. found_fails test other ys x f (or_right (other y) (any other ys) n))
   where
-    go : (b : Bool) → test y ≡ b → (find test ys ≡ some x → other x ≡ false) → other x ≡ false
+    go : (b : Bool) → test y ≡ b → (find test ys ≡ Some x → other x ≡ false) → other x ≡ false
     go true t rest =
-        let here : find test (y ∷ ys) ≡ some y = rw t in
+        let here : find test (y ∷ ys) ≡ Some y = rw t in
         let q : y ≡ x = cc in
         rw (← q) (or_left (other y) (any other ys) n)
     go false t rest = rest (sym (rw t) ∙ e)
 
 module _ (pieces : List (List ℕ)) (lookup : List ℕ) (named : any (names_no_piece pieces) lookup ≡ false) where
   -- An id that the lookup list gives is below the piece count.
-  pub id_below : (key : List ℕ) (id : ℕ) → lookup_id pieces lookup key ≡ some id → id < length pieces
+  pub id_below : (key : List ℕ) (id : ℕ) → lookup_id pieces lookup key ≡ Some id → id < length pieces
   unfolding lookup_id names_no_piece
   id_below key id e =
       leb-false (length pieces) id
@@ -66,8 +64,8 @@ module _ (pieces : List (List ℕ)) (lookup : List ℕ) (named : any (names_no_p
   key_id_lem few key = go (lookup_id pieces lookup key) refl
     where
       go : (o : Option ℕ) → lookup_id pieces lookup key ≡ o → id_of (id_or o) ≡ o
-      go none e = refl
-      go (some id) e = rw (ne_eqb id no_id (below (id_below key id e)))
+      go None e = refl
+      go (Some id) e = rw (ne_eqb id no_id (below (id_below key id e)))
         where
           below : id < length pieces → id ≡ no_id → ⊥
           below h q = omega arith
@@ -255,15 +253,15 @@ module _ (left : List ℕ) (shift : ℕ) where
       unfolding row_order
       has_equal i h = rw (lt-ltb i (length left) h) (pair_is-equal (get_or left i 0) (get_or right i 0) l r)
 
-      not_found : absent → found_row left right l r ≡ Nothing
+      not_found : absent → found_row left right l r ≡ None
       unfolding found_row
       not_found gone = go (found_row left right l r) refl
         where
-          go : (f : Found) → found_row left right l r ≡ f → f ≡ Nothing
-          go (At i) e = let s = found_equal (row_order left right l r) (length left) i e in absurd (gone i s.0 (has_equal i s.0 ∙ ap is_equal s.1))
-          go Nothing e = refl
+          go : (f : Option ℕ) → found_row left right l r ≡ f → f ≡ None
+          go (Some i) e = let s = found_equal (row_order left right l r) (length left) i e in absurd (gone i s.0 (has_equal i s.0 ∙ ap is_equal s.1))
+          go None e = refl
 
-      has_found : (i : ℕ) → i < length left → row_has left right i l r ≡ true → found_row left right l r ≡ At i
+      has_found : (i : ℕ) → i < length left → row_has left right i l r ≡ true → found_row left right l r ≡ Some i
       unfolding found_row
       has_found i h e =
           equal_found (row_order left right l r) (length left) (rows_fall left right ascends level l r) i (equal_is _ (sym (has_equal i h) ∙ e)) h
@@ -301,7 +299,7 @@ module _ (left : List ℕ) (shift : ℕ) where
         module _ (small : length left < shared) where
           -- A table over rows among which the pair's is, if there is one, tells what is so, where what is found elsewhere is right for a
           -- word that names another row.
-          module _ (spread : ℕ → ℕ → ℕ) (rows : List ℕ) (there : (j : ℕ) → j < length left → row_has left right j l r ≡ true → among rows j ≡ true) (w : ℕ) (later : Found)
+          module _ (spread : ℕ → ℕ → ℕ) (rows : List ℕ) (there : (j : ℕ) → j < length left → row_has left right j l r ≡ true → among rows j ≡ true) (w : ℕ) (later : Option ℕ)
               (right-later : row_has left right (named_row w) l r ≡ false → later ≡ found_row left right l r) where
             abbrev right-told : Type 0
             right-told = told_or (told left right w l r) later ≡ found_row left right l r
@@ -358,27 +356,27 @@ module _ (left : List ℕ) (shift : ℕ) where
 -- ---- on any tables
 
 -- A key that is neither one byte nor the mark has the id of the entry that is found among those of its first byte.
-pub id-searched : (pieces : List (List ℕ)) (lookup first_bytes : List ℕ) (mark_id : ℕ) (key : List ℕ) {marks : Bool} {from to : ℕ} {found : Found} → (length key ≡ 1 → ⊥)
+pub id-searched : (pieces : List (List ℕ)) (lookup first_bytes : List ℕ) (mark_id : ℕ) (key : List ℕ) {marks : Bool} {from to : ℕ} {found : Option ℕ} → (length key ≡ 1 → ⊥)
     → marks ≡ same key mark → marks ≡ false → from ≡ key_start first_bytes key → to ≡ key_end first_bytes key → found ≡ searched (piece_order pieces lookup key) from (min to (length lookup))
     → id_from pieces lookup first_bytes mark_id key ≡ id_at lookup found
 unfolding id_from
 id-searched pieces lookup first_bytes mark_id key many told other f t e = rw (ne_eqb (length key) 1 many, ← told, other, e, f, t)
 
-no_place {ℓ} : {A : Type ℓ} {i : ℕ} → Nothing ≡ At i → A
-no_place e = clash refl (ap is_at e)
+no_place {ℓ} : {A : Type ℓ} {i : ℕ} → None ≡ Some i → A
+no_place e = clash refl (ap is_some e)
 
 -- A place that is found is one of the rows.
-told_inside : (left right : List ℕ) (word l r : ℕ) (found : Found) {i : ℕ} → (found ≡ At i → i < length left) → told_or (told left right word l r) found ≡ At i → i < length left
+told_inside : (left right : List ℕ) (word l r : ℕ) (found : Option ℕ) {i : ℕ} → (found ≡ Some i → i < length left) → told_or (told left right word l r) found ≡ Some i → i < length left
 unfolding told
 told_inside left right word l r found {i} later e = go (eqb word 0) (row_has left right (named_row word) l r) (ltb word shared) refl e
   where
-    go : (a b c : Bool) → row_has left right (named_row word) l r ≡ b → told_or (cond a NoRow (cond b (Row (named_row word)) (cond c NoRow Elsewhere))) found ≡ At i → i < length left
+    go : (a b c : Bool) → row_has left right (named_row word) l r ≡ b → told_or (cond a NoRow (cond b (Row (named_row word)) (cond c NoRow Elsewhere))) found ≡ Some i → i < length left
     go true b c f q = no_place q
     go false true c f q = let is : named_row word ≡ i = cc in omega (arith, ltb-true (named_row word) (length left) (and_left _ _ f))
     go false false true f q = no_place q
     go false false false f q = later q
 
-between_inside : (left right index : List ℕ) (shift l r : ℕ) {i : ℕ} → row_between left right index shift l r ≡ At i → i < length left
+between_inside : (left right index : List ℕ) (shift l r : ℕ) {i : ℕ} → row_between left right index shift l r ≡ Some i → i < length left
 unfolding row_between
 between_inside left right index shift l r {i} e = go (ltb (l / 2 ^ shift + 1) bucket_words) e
   where
@@ -388,11 +386,11 @@ between_inside left right index shift l r {i} e = go (ltb (l / 2 ^ shift + 1) bu
     hi : ℕ
     hi = min (get_or index (l / 2 ^ shift + 1) 0) (length left)
 
-    go : (b : Bool) → cond b (searched (row_order left right l r) lo hi) Nothing ≡ At i → i < length left
+    go : (b : Bool) → cond b (searched (row_order left right l r) lo hi) None ≡ Some i → i < length left
     go true q = omega (arith, found_below (row_order left right l r) lo hi i q)
     go false q = no_place q
 
-pub found_inside : (left right index : List ℕ) (shift l r : ℕ) {i : ℕ} → row_from left right index shift l r ≡ At i → i < length left
+pub found_inside : (left right index : List ℕ) (shift l r : ℕ) {i : ℕ} → row_from left right index shift l r ≡ Some i → i < length left
 unfolding row_from row_beyond
 found_inside left right index shift l r =
     told_inside left right (pair_word index l r) l r (row_beyond left right index shift l r)

@@ -1,8 +1,7 @@
 -- What is derived of the two sorted tables once (rule 15.3), so that a search in them begins near its end: where each first byte begins in
 -- the lookup list, the ids of the mark and of single bytes, where each bucket of left ids begins in the merge rows, and two tables that
 -- name the row of nearly every pair.
-use Rattle.std.specs.Prelude.{ℕ, ◌+◌, ◌-◌, ◌*◌, ◌/◌, ◌%◌, ◌^◌, Bool, cond, not, List, [], ◌∷◌, ◌++◌, map, ltb, eqb, length, get_or}
-use Rattle.std.proofs.Math.Option.{Option, none, some}
+use Rattle.std.specs.Prelude.{ℕ, ◌+◌, ◌-◌, ◌*◌, ◌/◌, ◌%◌, ◌^◌, Bool, cond, not, List, [], ◌∷◌, ◌++◌, map, ltb, eqb, length, get_or, Option, None, Some}
 use Rattle.utf8.specs.Lists.{filter, take_while, below}
 use Rattle.model.specs.Model.{piece, lookup_id, no_id}
 use Rattle.model.specs.Mark.{mark}
@@ -20,8 +19,8 @@ first_bytes pieces lookup = map (first_byte_start pieces lookup) (below first_by
 
 -- An id as a number, 4,294,967,295 for none.
 abbrev pub id_or : Option ℕ → ℕ
-id_or none = no_id
-id_or (some id) = id
+id_or None = no_id
+id_or (Some id) = id
 
 -- The id that the lookup list gives a key.
 unfoldable pub key_id : List (List ℕ) → List ℕ → List ℕ → ℕ

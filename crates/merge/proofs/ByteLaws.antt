@@ -1,11 +1,11 @@
 -- A byte below 0x80 is a character by itself, and its word is the id of its piece. Assumes nothing.
+use Rattle.std.specs.Prelude.{Some}
 use Prim.Native.Nat.{ℕ, ◌+◌, ◌-◌, ◌<◌}
 use native.Mathlib.Nat.{add-zero}
 use native.Mathlib.Omega.{arith}
 use mathlib.Core.Path.{◌≡◌, refl, ap, ◌∙◌}
 use mathlib.Core.Bool.{Bool, true, false, cond, ◌&&◌}
 use mathlib.Core.List.{List, [], ◌∷◌}
-use mathlib.Core.Option.{some}
 use borrow.Author.Tests.{ltb-true, lt-ltb, ne_eqb}
 use lib.Dec.{eqb, ltb}
 use lib.ListN.{length, take, drop, get_or, length-drop}
@@ -22,7 +22,7 @@ use Rattle.merge.proofs.WalkLaws.{Stepped, unit-at}
 
 module _ (bytes offsets lookup first_bytes : List ℕ) (mark_id : ℕ) (raw : Bool) where
   -- The number of an id that is not none's stands for it.
-  stands : (id : ℕ) → (id ≡ no_id → ⊥) → indexed.id_of id ≡ some id
+  stands : (id : ℕ) → (id ≡ no_id → ⊥) → indexed.id_of id ≡ Some id
   unfolding indexed.id_of
   stands id has = rw (ne_eqb id no_id has)
 
@@ -53,7 +53,7 @@ module _ (bytes offsets lookup first_bytes : List ℕ) (mark_id : ℕ) (raw : Bo
     -- The character at i is the byte there, and id is its own.
     pub record Alone (id : ℕ) : Type 0 where
       pub is : unit_chars raw (drop i unit) ≡ as_mark raw (get_or unit i 0 ∷ []) ∷ unit_chars raw (drop (i + 1) unit)
-      pub has : own_found bytes offsets lookup first_bytes mark_id (as_mark raw (get_or unit i 0 ∷ [])) ≡ some id
+      pub has : own_found bytes offsets lookup first_bytes mark_id (as_mark raw (get_or unit i 0 ∷ [])) ≡ Some id
 
     pub alone : {id : ℕ} → i < length unit → id ≡ byte_own first_bytes mark_id raw (get_or unit i 0) → (id ≡ no_id → ⊥) → Alone id
     alone {id} h e some' =

@@ -1,11 +1,11 @@
 -- Laws of the merge in place on the front of a buffer. Assumes nothing.
+use Rattle.std.specs.Prelude.{Option, None, Some}
 use Prim.Native.Nat.{ℕ, suc, ◌+◌, ◌-◌, ◌≤◌, min}
 use native.Mathlib.Nat.{sub_self}
 use native.Mathlib.Omega.{arith}
 use mathlib.Core.Path.{◌≡◌, refl, sym, ap, ◌∙◌}
 use mathlib.Core.Logic.{⊎_elim}
 use mathlib.Core.List.{List, [], ◌∷◌, ◌++◌, append_assoc}
-use mathlib.Core.Option.{Option, none, some}
 use borrow.Author.Tests.{leb-true, leb-false}
 use lib.Dec.{leb}
 use lib.ListN.{length, take, drop, length-append, length-drop, take-append-drop, drop_of_length-le, length-replicate}
@@ -13,34 +13,34 @@ use lib.Seq.{take_at, drop_at, take_all, take-length, drop-length, length-take-l
 use Rattle.utf8.proofs.Tests.{either}
 use Rattle.model.specs.Model.{Row}
 use Rattle.model.specs.Answers.{zeros}
-use Rattle.merge.specs.declared.Turn.{Turn}
-use Rattle.merge.specs.declared.Turn.TheVariants.{Merge, Stop}
+use Rattle.merge.specs.declared.Joining.{Joining}
 use Rattle.merge.specs.Merge.{Candidate, next_merge, merged_at, merged}
-use Rattle.merge.specs.inner.Turns.{turn_of, joined_at, Merged, merged_front}
+use Rattle.merge.specs.inner.Turns.{joining, turn_of, joined_at, Merged, merged_front}
 use Rattle.merge.proofs.NextLaws.{next_found, merged_shorter, place_inside}
 use Rattle.merge.proofs.MergedLaws.{merged_step, merged-none}
 
 -- ---- what a turn says of the next merge
 
-never {ℓ} : {A : Type ℓ} {place result rank : ℕ} → Merge place result rank ≡ Stop → A
+never {ℓ} : {A : Type ℓ} {X : Type 0} {x : X} → Some x ≡ None → A
 never e = let z : ◌≡◌ {A = ℕ} 0 1 = cc in absurd (omega arith)
 
 -- The next merge is of the pair at a place, which becomes result.
 pub record Picked (o : Option Candidate) (place result : ℕ) : Type 0 where
   pub one : Candidate
-  pub is : o ≡ some one
+  pub is : o ≡ Some one
   pub stands : one.place ≡ place
   pub gives : one.row.result ≡ result
 
-pub picked : (o : Option Candidate) {t : Turn} {place result rank : ℕ} → t ≡ turn_of o → t ≡ Merge place result rank → Picked o place result
-picked none told e = never (sym e ∙ told)
-picked (some c) {place = place} {result = result} {rank = rank} told e =
-    let same : Merge c.place c.row.result c.row.rank ≡ Merge place result rank = sym told ∙ e in
-    record { one = c; is = refl; stands = cc; gives = cc }
+pub picked : (o : Option Candidate) {t : Option Joining} {j : Joining} → t ≡ turn_of o → t ≡ Some j → Picked o j.place j.result
+picked None told e = never (sym e ∙ told)
+picked (Some c) {j = j} told e =
+    let same : joining c.place c.row.result c.row.rank ≡ Some j = sym told ∙ e in
+    let parts : record { place = c.place; result = c.row.result; rank = c.row.rank } ≡ j = cc in
+    record { one = c; is = refl; stands = ap (λ (k : Joining). k.place) parts; gives = ap (λ (k : Joining). k.result) parts }
 
-pub stopped : (o : Option Candidate) {t : Turn} → t ≡ turn_of o → t ≡ Stop → o ≡ none
-stopped none told e = refl
-stopped (some c) told e = never (sym told ∙ e)
+pub stopped : (o : Option Candidate) {t : Option Joining} → t ≡ turn_of o → t ≡ None → o ≡ None
+stopped None told e = refl
+stopped (Some c) told e = never (sym told ∙ e)
 
 -- ---- the front of a buffer, counted beyond its end
 
@@ -119,7 +119,7 @@ module _ {row : ℕ → ℕ → Option Row} {whole : ℕ} {before out : List ℕ
           shape = split ∙ ap (λ (l : List ℕ). l ++ (zeros (whole - (n - 1)) ++ drop whole before)) (sym front);
         }
 
-  pub merging-ended : (count : ℕ) → whole ≡ min count (length before) → next_merge row (take n out) ≡ none
+  pub merging-ended : (count : ℕ) → whole ≡ min count (length before) → next_merge row (take n out) ≡ None
       → ◌≡◌ {A = Merged} (record { count = n; ids = out }) (merged_front row count before)
   unfolding merged_front
   merging-ended count is e =

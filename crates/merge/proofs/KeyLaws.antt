@@ -1,4 +1,5 @@
 -- Laws of the rows that are kept while ids are merged. Assumes nothing.
+use Rattle.std.specs.Prelude.{Option, None, Some}
 use Prim.Native.Nat.{ℕ, zero, suc, ◌+◌, ◌-◌, ◌*◌, ◌/◌, ◌%◌, ◌≤◌, ◌<◌}
 use native.Mathlib.Omega.{arith}
 use native.Mathlib.Numerals.{add-one}
@@ -6,7 +7,6 @@ use native.Mathlib.Nat.{zero-add}
 use mathlib.Core.Path.{◌≡◌, refl, sym, ap, ◌∙◌}
 use mathlib.Core.Logic.{⊎_elim}
 use mathlib.Core.List.{List, [], ◌∷◌, ◌++◌, map, map-append, append_assoc}
-use mathlib.Core.Option.{Option, none, some}
 use borrow.Author.Tests.{lt-ltb, le-ltb, ltb-true, ltb-false}
 use lib.Dec.{ltb}
 use lib.ListN.{length, take, drop, get_or, set, length-append, length-drop, length-map, take-append-drop, drop_of_length-le}
@@ -15,29 +15,26 @@ use Rattle.utf8.specs.Lists.{neighbours_from}
 use Rattle.utf8.proofs.Tests.{either}
 use Rattle.utf8.proofs.Lists.{drop-map}
 use Rattle.model.specs.Model.{Row}
-use Rattle.model.specs.declared.Found.{Found}
-use Rattle.model.specs.declared.Found.TheVariants.{At, Nothing}
 use Rattle.index.specs.inner.Find.{row_from}
-use Rattle.merge.specs.declared.Turn.{Turn}
-use Rattle.merge.specs.declared.Turn.TheVariants.{Merge, Stop}
+use Rattle.merge.specs.declared.Joining.{Joining}
 use Rattle.merge.specs.Merge.{candidate_at, candidates_from, candidates, lowest_rank, next_merge}
-use Rattle.merge.specs.inner.Turns.{row_in, turn_of, joined_at}
-use Rattle.merge.specs.inner.Keys.{Ranked, row_span, no_key, key_row, ranked_row, pair_row, next_rows, lower_turn, row_turn, rows_turn, closed_at, Kept}
+use Rattle.merge.specs.inner.Turns.{joining, row_in, turn_of, joined_at, closed_at}
+use Rattle.merge.specs.inner.Keys.{Ranked, row_span, no_key, key_row, ranked_row, pair_row, next_rows, lower_turn, row_turn, rows_turn, Kept}
 use Rattle.merge.proofs.NextLaws.{lowest-append, next_found, merged-is}
 use Rattle.merge.proofs.FrontLaws.{Picked, Merging, merging_start, merging_fits, merging_inside, merging-front, merging-next}
 use Rattle.merge.proofs.TurnLaws.{turn_at, row-at, row_missing, lower_stop, lower_assoc, turn_lower, turn_one, no_rank, best_turn, best_some, lower_taken, lower_kept}
 
 -- ---- a row and its rank as one number
 
-pub key_some : (key : ℕ) → key < no_key → key_row key ≡ some (key % row_span, key / row_span)
+pub key_some : (key : ℕ) → key < no_key → key_row key ≡ Some (key % row_span, key / row_span)
 unfolding key_row
 key_some key h = rw (lt-ltb key no_key h)
 
-pub key_none : (key : ℕ) → no_key ≤ key → key_row key ≡ none
+pub key_none : (key : ℕ) → no_key ≤ key → key_row key ≡ None
 unfolding key_row
 key_none key h = rw (le-ltb key no_key h)
 
-pub key_of : (rank row : ℕ) → rank < no_rank → row < row_span → key_row (rank * row_span + row) ≡ some (row, rank)
+pub key_of : (rank row : ℕ) → rank < no_rank → row < row_span → key_row (rank * row_span + row) ≡ Some (row, rank)
 key_of rank row small inside =
     let key = rank * row_span + row in
     let place : key % row_span ≡ row = omega arith in
@@ -51,13 +48,13 @@ module _ (row : ℕ → ℕ → Option Ranked) where
   length-rows [] = refl
   length-rows (a ∷ ids) = ap suc (length-rows ids)
 
-  pub row_last : (ids : List ℕ) (place : ℕ) → length ids ≤ place + 1 → get_or (next_rows row ids) place none ≡ none
+  pub row_last : (ids : List ℕ) (place : ℕ) → length ids ≤ place + 1 → get_or (next_rows row ids) place None ≡ None
   row_last [] place h = refl
   row_last (a ∷ []) zero h = refl
   row_last (a ∷ b ∷ ids) zero h = absurd (omega arith)
   row_last (a ∷ ids) (suc place) h = row_last ids place (omega arith)
 
-  pub row_inside : (ids : List ℕ) (place : ℕ) → place + 1 < length ids → get_or (next_rows row ids) place none ≡ row (get_or ids place 0) (get_or ids (suc place) 0)
+  pub row_inside : (ids : List ℕ) (place : ℕ) → place + 1 < length ids → get_or (next_rows row ids) place None ≡ row (get_or ids place 0) (get_or ids (suc place) 0)
   row_inside [] place h = absurd (omega arith)
   row_inside (a ∷ []) zero h = absurd (omega arith)
   row_inside (a ∷ b ∷ ids) zero h = refl
@@ -90,7 +87,7 @@ kept-none rows kept n h k =
     record { front = refl; back = drop_of_length-le kept {i = n} k ∙ sym (drop_of_length-le rows {i = n} h) }
 
 module _ {rows : List (Option Ranked)} (keys : List ℕ) {from to : ℕ} (k : Kept rows (map key_row keys) from to) where
-  pub kept_next : (key : ℕ) → from < to → to ≤ length keys → length rows ≡ length keys → key_row key ≡ get_or rows from none → Kept rows (map key_row (set keys from key)) (from + 1) to
+  pub kept_next : (key : ℕ) → from < to → to ≤ length keys → length rows ≡ length keys → key_row key ≡ get_or rows from None → Kept rows (map key_row (set keys from key)) (from + 1) to
   kept_next key h l same is =
       record {
         front =
@@ -100,7 +97,7 @@ module _ {rows : List (Option Ranked)} (keys : List ℕ) {from to : ℕ} (k : Ke
             ∙ map-append key_row (take from keys) (key ∷ [])
             ∙ ap (λ (l : List (Option Ranked)). l ++ (key_row key ∷ [])) (sym (take-map key_row from keys) ∙ k.front)
             ∙ ap (λ (o : Option Ranked). take from rows ++ (o ∷ [])) is
-            ∙ sym (take-suc rows from none (omega (arith, same)))
+            ∙ sym (take-suc rows from None (omega (arith, same)))
             ∙ ap (λ (n : ℕ). take n rows) (sym (add-one from));
         back =
             drop-map key_row to (set keys from key)
@@ -161,9 +158,9 @@ module _ (left right result rank row_index : List ℕ) (shift : ℕ) where
   unfolding pair_row
   turn_found place l r = go (row_from left right row_index shift l r) refl
     where
-      go : (f : Found) → f ≡ row_from left right row_index shift l r → row_turn result place (ranked_row rank f) ≡ turn_at place (row_of_pair l r)
-      go (At i) e = row-at left right result rank row_index shift place l r e refl refl
-      go Nothing e = row_missing left right result rank row_index shift place l r e refl
+      go : (f : Option ℕ) → f ≡ row_from left right row_index shift l r → row_turn result place (ranked_row rank f) ≡ turn_at place (row_of_pair l r)
+      go (Some i) e = row-at left right result rank row_index shift place l r e refl refl
+      go None e = row_missing left right result rank row_index shift place l r e refl
 
   turns_found : (place x : ℕ) (xs : List ℕ) → turn_of (lowest_rank (candidates_from row_of_pair place (neighbours_from x xs))) ≡ rows_turn result place (next_rows found (x ∷ xs))
   turns_found place x [] = refl
@@ -171,7 +168,7 @@ module _ (left right result rank row_index : List ℕ) (shift : ℕ) where
       let others = candidates_from row_of_pair (suc place) (neighbours_from y ys) in
       ap turn_of (lowest-append (candidate_at place (row_of_pair x y)) others)
       ∙ turn_lower (lowest_rank (candidate_at place (row_of_pair x y))) (lowest_rank others)
-      ∙ ap (λ (t : Turn). lower_turn t (turn_of (lowest_rank others))) (turn_one place (row_of_pair x y) ∙ sym (turn_found place x y))
+      ∙ ap (λ (t : Option Joining). lower_turn t (turn_of (lowest_rank others))) (turn_one place (row_of_pair x y) ∙ sym (turn_found place x y))
       ∙ ap (lower_turn (row_turn result place (found x y))) (turns_found (suc place) y ys)
 
   pub next-turn : (ids : List ℕ) → rows_turn result 0 (next_rows found ids) ≡ turn_of (next_merge row_of_pair ids)
@@ -192,13 +189,13 @@ module _ (result keys : List ℕ) where
   lowest_start place key = record { small = omega arith; inside = omega arith; same = refl }
 
   module _ {lowest place key i : ℕ} (b : Lowest result keys lowest place key i) where
-    abbrev here : Turn
+    abbrev here : Option Joining
     here = row_turn result i (key_row (get_or keys i 0))
 
-    abbrev best : Turn
+    abbrev best : Option Joining
     best = best_turn result lowest place (key % row_span)
 
-    abbrev later : Turn
+    abbrev later : Option Joining
     later = rows_turn result (i + 1) (map key_row (drop (i + 1) keys))
 
     split : i < length keys → rows_turn result 0 (map key_row keys) ≡ lower_turn (lower_turn best here) later
@@ -208,7 +205,7 @@ module _ (result keys : List ℕ) where
         ∙ ap (λ (n : ℕ). lower_turn best (lower_turn here (rows_turn result n (map key_row (drop n keys))))) (sym (add-one i))
         ∙ lower_assoc best here later
 
-    here_some : get_or keys i 0 < no_key → here ≡ Merge i (get_or result (get_or keys i 0 % row_span) 0) (get_or keys i 0 / row_span)
+    here_some : get_or keys i 0 < no_key → here ≡ joining i (get_or result (get_or keys i 0 % row_span) 0) (get_or keys i 0 / row_span)
     here_some h = ap (row_turn result i) (key_some (get_or keys i 0) h)
 
     pub lowest_lower : i < length keys → get_or keys i 0 / row_span < lowest → Lowest result keys (get_or keys i 0 / row_span) i (get_or keys i 0) (i + 1)
@@ -220,7 +217,7 @@ module _ (result keys : List ℕ) where
           inside = omega arith;
           same =
               split h
-              ∙ ap (λ (t : Turn). lower_turn t later)
+              ∙ ap (λ (t : Option Joining). lower_turn t later)
               (ap (lower_turn best) (here_some (omega (arith, few)))
               ∙ lower_taken result lowest place (key % row_span) i (get_or result (this % row_span) 0) (this / row_span) few l
               ∙ sym (best_some result (this / row_span) i (this % row_span) few));
@@ -231,7 +228,7 @@ module _ (result keys : List ℕ) where
         record {
           small = b.small;
           inside = omega arith;
-          same = split h ∙ ap (λ (t : Turn). lower_turn t later) (⊎_elim (λ t. some_here (ltb-true (get_or keys i 0) no_key t)) (λ t. none_here (ltb-false (get_or keys i 0) no_key t)) (either (ltb (get_or keys i 0) no_key)));
+          same = split h ∙ ap (λ (t : Option Joining). lower_turn t later) (⊎_elim (λ t. some_here (ltb-true (get_or keys i 0) no_key t)) (λ t. none_here (ltb-false (get_or keys i 0) no_key t)) (either (ltb (get_or keys i 0) no_key)));
         }
       where
         some_here : get_or keys i 0 < no_key → lower_turn best here ≡ best
@@ -247,10 +244,10 @@ module _ (result keys : List ℕ) where
         ∙ ap (λ (l : List ℕ). lower_turn best (rows_turn result i (map key_row l))) (drop_of_length-le keys {i = i} h)
         ∙ lower_stop best
 
-    pub lowest-none : length keys ≤ i → no_rank ≤ lowest → Stop ≡ rows_turn result 0 (map key_row keys)
+    pub lowest-none : length keys ≤ i → no_rank ≤ lowest → None ≡ rows_turn result 0 (map key_row keys)
     lowest-none h l = sym (over h ∙ rw (le-ltb lowest no_rank l))
 
-    pub lowest-some : {n : ℕ} → length keys ≤ i → lowest < no_rank → n ≡ get_or result (key % row_span) 0 → Merge place n lowest ≡ rows_turn result 0 (map key_row keys)
+    pub lowest-some : {n : ℕ} → length keys ≤ i → lowest < no_rank → n ≡ get_or result (key % row_span) 0 → joining place n lowest ≡ rows_turn result 0 (map key_row keys)
     lowest-some h l e = rw e (sym (over h ∙ best_some result lowest place (key % row_span) l))
 
 -- ---- the loop
@@ -292,7 +289,7 @@ module _ {row : ℕ → ℕ → Option Row} {found : ℕ → ℕ → Option Rank
 
   -- After a merge, and without what stood behind its place.
   module _ {place result : ℕ} (p : Picked (next_merge row (take n ids)) place result) (filled : List ℕ) (long : length filled ≡ n) (right : map key_row filled ≡ next_rows found (take n ids)) where
-    closed_front : (rest : List ℕ) → take (n - 1) (closed_at place filled ++ rest) ≡ take (place + 1) filled ++ drop (place + 2) filled
+    closed_front : (rest : List ℕ) → take (n - 1) (closed_at place 0 filled ++ rest) ≡ take (place + 1) filled ++ drop (place + 2) filled
     unfolding closed_at
     closed_front rest =
         let closed = take (place + 1) filled ++ drop (place + 2) filled in
@@ -301,7 +298,7 @@ module _ {row : ℕ → ℕ → Option Row} {found : ℕ → ℕ → Option Rank
         omega (arith, length-append (take (place + 1) filled) (drop (place + 2) filled), length-take-le (place + 1) filled (omega (arith, long, inside)), length-drop (place + 2) filled, long, inside) in
         ap (take (n - 1)) (append_assoc closed (0 ∷ []) rest) ∙ take_at closed (0 ∷ rest) (n - 1) less
 
-    closed_long : length (closed_at place filled ++ drop n keys) ≡ length keys
+    closed_long : length (closed_at place 0 filled ++ drop n keys) ≡ length keys
     unfolding closed_at
     closed_long =
         let front = take (place + 1) filled in
@@ -310,7 +307,7 @@ module _ {row : ℕ → ℕ → Option Row} {found : ℕ → ℕ → Option Rank
         omega
         (arith, length-append ((front ++ back) ++ (0 ∷ [])) (drop n keys), length-append (front ++ back) (0 ∷ []), length-append front back, length-take-le (place + 1) filled (omega (arith, long, inside)), length-drop (place + 2) filled, length-drop n keys, keeping_keys, long, inside)
 
-    pub keeping_next : {ids' keys' : List ℕ} → ids' ≡ joined_at place result (take n ids) ++ drop n ids → keys' ≡ closed_at place filled ++ drop n keys → {from' : ℕ} → from' ≡ place - 1
+    pub keeping_next : {ids' keys' : List ℕ} → ids' ≡ joined_at place result (take n ids) ++ drop n ids → keys' ≡ closed_at place 0 filled ++ drop n keys → {from' : ℕ} → from' ≡ place - 1
         → Keeping row found whole room before ids' (n - 1) keys' from' (place + 1)
     keeping_next {ids'} {keys'} e f {from'} is =
         let one = next_found row (take n ids) p.one p.is in

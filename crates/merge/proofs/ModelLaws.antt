@@ -1,11 +1,11 @@
 -- What the searches from derived tables give on an accepted model is what its tables hold; so starting ids and merges by them are the
 -- model's. Assumes nothing.
+use Rattle.std.specs.Prelude.{Option, None, Some}
 use Prim.Native.Nat.{ℕ, zero, suc, ◌+◌, ◌<◌, max}
 use native.Mathlib.Omega.{arith}
 use mathlib.Core.Path.{◌≡◌, refl, ap, ap₂, ◌∙◌}
 use mathlib.Core.Bool.{Bool, true, false, cond, ◌&&◌}
 use mathlib.Core.List.{List, [], ◌∷◌, ◌++◌, map}
-use mathlib.Core.Option.{Option, none, some}
 use borrow.Author.Tests.{lt-ltb, ltb-true}
 use lib.Dec.{ltb}
 use lib.ListN.{length, take, drop, get_or, length-drop}
@@ -43,8 +43,8 @@ module _ (f g : ℕ → ℕ → Option Row) (agree : (a b : ℕ) → f a b ≡ g
   merged_for_lem (suc turns) ids = ap (λ (o : Option Candidate). merge_then o (merged_for turns f) ids) (next_alike ids) ∙ go (merged_for_lem turns) (next_merge g ids)
     where
       go : ((l : List ℕ) → merged_for turns f l ≡ merged_for turns g l) → (o : Option Candidate) → merge_then o (merged_for turns f) ids ≡ merge_then o (merged_for turns g) ids
-      go less none = refl
-      go less (some c) = less _
+      go less None = refl
+      go less (Some c) = less _
 
   pub merged_alike : (ids : List ℕ) → merged f ids ≡ merged g ids
   unfolding merged

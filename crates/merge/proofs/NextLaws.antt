@@ -1,13 +1,13 @@
 -- Laws of the next merge, over any function from pairs to rows: where it stands, and what it is in a list that is two lists joined
 -- with no row over the seam. Assumes nothing.
+use Rattle.std.specs.Prelude.{Option, None, Some, option_map}
+use Rattle.std.proofs.lemmas.Option.{none-some, same_Some}
 use Prim.Native.Nat.{ℕ, suc, ◌+◌, ◌≤◌}
 use native.Mathlib.Omega.{arith}
 use native.Mathlib.Nat.{add-zero, zero-add, add_assoc}
 use mathlib.Core.Path.{◌≡◌, refl, sym, ap, ◌∙◌, subst}
 use mathlib.Core.Bool.{Bool, true, false, cond}
 use mathlib.Core.List.{List, [], ◌∷◌, ◌++◌, map, append_assoc}
-use mathlib.Core.Option
-use mathlib.Core.Option.{Option, none, some, none-ne-some, some-injective}
 use borrow.Author.Tests.{leb-true, leb-false, le-leb, lt-leb}
 use lib.Dec.{leb}
 use lib.ListN.{length, take, drop, length-append}
@@ -20,14 +20,14 @@ use Rattle.merge.specs.Merge.{Candidate, candidate_at, candidates_from, candidat
 
 -- The lower of what two rows of candidates give, of equals the first.
 abbrev pub lower_of : Option Candidate → Option Candidate → Option Candidate
-lower_of none o = o
-lower_of (some c) o = some (lower_rank c o)
+lower_of None o = o
+lower_of (Some c) o = Some (lower_rank c o)
 
-lower_assoc : (a b c : Candidate) → lower_rank a (some (lower_rank b (some c))) ≡ lower_rank (lower_rank a (some b)) (some c)
+lower_assoc : (a b c : Candidate) → lower_rank a (Some (lower_rank b (Some c))) ≡ lower_rank (lower_rank a (Some b)) (Some c)
 lower_assoc a b c = go (leb a.row.rank b.row.rank) (leb b.row.rank c.row.rank) refl refl
   where
     go : (x y : Bool) → leb a.row.rank b.row.rank ≡ x → leb b.row.rank c.row.rank ≡ y
-        → lower_rank a (some (lower_rank b (some c))) ≡ lower_rank (lower_rank a (some b)) (some c)
+        → lower_rank a (Some (lower_rank b (Some c))) ≡ lower_rank (lower_rank a (Some b)) (Some c)
     go true true p q =
         rw (p, q) (rw (p, le-leb a.row.rank c.row.rank (omega (arith, leb-true a.row.rank b.row.rank p, leb-true b.row.rank c.row.rank q))))
     go true false p q = rw (p, q)
@@ -37,12 +37,12 @@ lower_assoc a b c = go (leb a.row.rank b.row.rank) (leb b.row.rank c.row.rank) r
 
 pub lowest-append : (cs ds : List Candidate) → lowest_rank (cs ++ ds) ≡ lower_of (lowest_rank cs) (lowest_rank ds)
 lowest-append [] ds = refl
-lowest-append (c ∷ cs) ds = ap (λ (o : Option Candidate). some (lower_rank c o)) (lowest-append cs ds) ∙ go (lowest_rank cs) (lowest_rank ds)
+lowest-append (c ∷ cs) ds = ap (λ (o : Option Candidate). Some (lower_rank c o)) (lowest-append cs ds) ∙ go (lowest_rank cs) (lowest_rank ds)
   where
-    go : (o p : Option Candidate) → some (lower_rank c (lower_of o p)) ≡ lower_of (some (lower_rank c o)) p
-    go none p = refl
-    go (some d) none = refl
-    go (some d) (some e) = ap {B = Option Candidate} some (lower_assoc c d e)
+    go : (o p : Option Candidate) → Some (lower_rank c (lower_of o p)) ≡ lower_of (Some (lower_rank c o)) p
+    go None p = refl
+    go (Some d) None = refl
+    go (Some d) (Some e) = ap {B = Option Candidate} Some (lower_assoc c d e)
 
 -- ---- candidates at later places
 
@@ -60,24 +60,24 @@ module _ (row : ℕ → ℕ → Option Row) where
 
       go : (o : Option Row) → candidates_from row (suc (n + k)) pairs ≡ map (later n) (candidates_from row (suc k) pairs)
           → candidate_at (n + k) o ++ candidates_from row (suc (n + k)) pairs ≡ map (later n) (candidate_at k o ++ candidates_from row (suc k) pairs)
-      go none e = e
-      go (some r) e = ap {B = List Candidate} (λ cs. record { place = n + k; row = r } ∷ cs) e
+      go None e = e
+      go (Some r) e = ap {B = List Candidate} (λ cs. record { place = n + k; row = r } ∷ cs) e
 
-  lowest_later : (n : ℕ) (cs : List Candidate) → lowest_rank (map (later n) cs) ≡ Option.map (later n) (lowest_rank cs)
+  lowest_later : (n : ℕ) (cs : List Candidate) → lowest_rank (map (later n) cs) ≡ option_map (later n) (lowest_rank cs)
   lowest_later n [] = refl
-  lowest_later n (c ∷ cs) = ap (λ (o : Option Candidate). some (lower_rank (later n c) o)) (lowest_later n cs) ∙ go (lowest_rank cs)
+  lowest_later n (c ∷ cs) = ap (λ (o : Option Candidate). Some (lower_rank (later n c) o)) (lowest_later n cs) ∙ go (lowest_rank cs)
     where
-      go : (o : Option Candidate) → some (lower_rank (later n c) (Option.map (later n) o)) ≡ some (later n (lower_rank c o))
-      go none = refl
-      go (some d) = pick (leb c.row.rank d.row.rank)
+      go : (o : Option Candidate) → Some (lower_rank (later n c) (option_map (later n) o)) ≡ Some (later n (lower_rank c o))
+      go None = refl
+      go (Some d) = pick (leb c.row.rank d.row.rank)
         where
-          pick : (b : Bool) → some (cond b (later n c) (later n d)) ≡ some (later n (cond b c d))
+          pick : (b : Bool) → Some (cond b (later n c) (later n d)) ≡ Some (later n (cond b c d))
           pick true = refl
           pick false = refl
 
   -- No row stands for the last of some ids and the first of others.
   abbrev pub NoRow : List ℕ → List ℕ → Type 0
-  NoRow xs ys = (front back : List ℕ) (a b : ℕ) → xs ≡ front ++ (a ∷ []) → ys ≡ b ∷ back → row a b ≡ none
+  NoRow xs ys = (front back : List ℕ) (a b : ℕ) → xs ≡ front ++ (a ∷ []) → ys ≡ b ∷ back → row a b ≡ None
 
   candidates_seam : (x : ℕ) (xs ys : List ℕ) (k : ℕ) → NoRow (x ∷ xs) ys
       → candidates_from row k (neighbours_from x (xs ++ ys)) ≡ candidates_from row k (neighbours_from x xs) ++ candidates_from row (suc (length xs) + k) (neighbours ys)
@@ -106,7 +106,7 @@ module _ (row : ℕ → ℕ → Option Row) where
       ∙ ap (λ (cs : List Candidate). candidates_from row 0 (neighbours_from x xs) ++ cs) (candidates_later (suc (length xs)) 0 (neighbours ys))
 
   -- The next merge of two lists joined, with no row over the seam: the lower of their own.
-  pub next-append : (xs ys : List ℕ) → NoRow xs ys → next_merge row (xs ++ ys) ≡ lower_of (next_merge row xs) (Option.map (later (length xs)) (next_merge row ys))
+  pub next-append : (xs ys : List ℕ) → NoRow xs ys → next_merge row (xs ++ ys) ≡ lower_of (next_merge row xs) (option_map (later (length xs)) (next_merge row ys))
   unfolding next_merge
   next-append xs ys apart =
       ap lowest_rank (candidates-append xs ys apart)
@@ -123,7 +123,7 @@ module _ (row : ℕ → ℕ → Option Row) where
     pub back : List ℕ
     pub whole : ids ≡ front ++ left ∷ right ∷ back
     pub place : k + length front ≡ c.place
-    pub has : row left right ≡ some c.row
+    pub has : row left right ≡ Some c.row
 
   abbrev Every : (Candidate → Type 0) → List Candidate → Type 0
   Every P [] = Unit {0}
@@ -137,14 +137,14 @@ module _ (row : ℕ → ℕ → Option Row) where
   every_map P Q f [] p = tt
   every_map P Q f (c ∷ cs) p = (f c p.0, every_map P Q f cs p.1)
 
-  lowest-is-one : (P : Candidate → Type 0) (cs : List Candidate) (c : Candidate) → Every P cs → lowest_rank cs ≡ some c → P c
-  lowest-is-one P [] c all e = absurd (none-ne-some c e)
+  lowest-is-one : (P : Candidate → Type 0) (cs : List Candidate) (c : Candidate) → Every P cs → lowest_rank cs ≡ Some c → P c
+  lowest-is-one P [] c all e = absurd (none-some c e)
   lowest-is-one P (d ∷ cs) c all e =
-      go (λ x. lowest-is-one P cs x all.1) (lowest_rank cs) refl (some-injective (lower_rank d (lowest_rank cs)) c e)
+      go (λ x. lowest-is-one P cs x all.1) (lowest_rank cs) refl (same_Some (lower_rank d (lowest_rank cs)) c e)
     where
-      go : ((x : Candidate) → lowest_rank cs ≡ some x → P x) → (o : Option Candidate) → lowest_rank cs ≡ o → lower_rank d o ≡ c → P c
-      go others none q p = subst P p all.0
-      go others (some f) q p = pick (leb d.row.rank f.row.rank) p
+      go : ((x : Candidate) → lowest_rank cs ≡ Some x → P x) → (o : Option Candidate) → lowest_rank cs ≡ o → lower_rank d o ≡ c → P c
+      go others None q p = subst P p all.0
+      go others (Some f) q p = pick (leb d.row.rank f.row.rank) p
         where
           pick : (b : Bool) → cond b d f ≡ c → P c
           pick true p = subst P p all.0
@@ -169,13 +169,13 @@ module _ (row : ℕ → ℕ → Option Row) where
       (every_map (FoundFrom (suc k) (y ∷ ys)) (FoundFrom k (x ∷ y ∷ ys)) (found_on k x (y ∷ ys)) (candidates_from row (suc k) (neighbours_from y ys)) (every_found (suc k) y ys))
     where
       go : (o : Option Row) → row x y ≡ o → Every (FoundFrom k (x ∷ y ∷ ys)) (candidate_at k o)
-      go none e = tt
-      go (some r) e = (record { front = []; left = x; right = y; back = ys; whole = refl; place = add-zero k; has = e }, tt)
+      go None e = tt
+      go (Some r) e = (record { front = []; left = x; right = y; back = ys; whole = refl; place = add-zero k; has = e }, tt)
 
   -- The next merge's pair stands at its place, and has its row.
-  pub next_found : (ids : List ℕ) (c : Candidate) → next_merge row ids ≡ some c → FoundFrom 0 ids c
+  pub next_found : (ids : List ℕ) (c : Candidate) → next_merge row ids ≡ Some c → FoundFrom 0 ids c
   unfolding next_merge candidates
-  next_found [] c e = absurd (none-ne-some c e)
+  next_found [] c e = absurd (none-some c e)
   next_found (x ∷ xs) c e = lowest-is-one (FoundFrom 0 (x ∷ xs)) (candidates_from row 0 (neighbours_from x xs)) c (every_found 0 x xs) e
 
   -- ---- the ids after a merge

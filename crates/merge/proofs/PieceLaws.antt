@@ -1,11 +1,12 @@
 -- Laws of the pieces that ids stand for, in an accepted model: merges keep the bytes that ids spell, the starting ids of a character
 -- that is not dropped spell it, and ids whose strings no piece reaches across merge apart or joined alike. Assumes nothing.
+use Rattle.std.specs.Prelude.{Option, None, Some}
+use Rattle.std.proofs.lemmas.Option.{none-some, same_Some}
 use Prim.Native.Nat.{ℕ, ◌<◌}
 use native.Mathlib.Omega.{arith}
 use mathlib.Core.Path.{◌≡◌, refl, sym, ap, ap₂, ◌∙◌, subst}
 use mathlib.Core.Bool.{Bool, true, false, not, cond, ◌&&◌, ◌||◌}
 use mathlib.Core.List.{List, [], ◌∷◌, ◌++◌, map, append_assoc, append-nil}
-use mathlib.Core.Option.{Option, none, some, none-ne-some, some-injective}
 use borrow.Author.Tests.{ltb-true, ltb-false, eqb-true, eq-eqb}
 use lib.Dec.{eqb, ltb}
 use lib.ListN.{length, get_or, length-append, get_or-eq_default}
@@ -65,7 +66,7 @@ module _ (m : Model) (ok : Accepted m) where
         (ap result_joins (sym at) ∙ all_holds result_joins (zip (zip m.left m.right) m.result) i ((0, 0), 0) ok.rows_joined both)
 
   -- A row's result stands for what its pair stands for.
-  pub row_joins : (a b : ℕ) (r : Row) → row_of (merge_rows m) a b ≡ some r → piece (pieces_of m) r.result ≡ piece (pieces_of m) a ++ piece (pieces_of m) b
+  pub row_joins : (a b : ℕ) (r : Row) → row_of (merge_rows m) a b ≡ Some r → piece (pieces_of m) r.result ≡ piece (pieces_of m) a ++ piece (pieces_of m) b
   unfolding merge_rows row_of
   row_joins a b r e =
       let f = find-some (λ (row : Row). eqb row.left a && eqb row.right b) (rows_of m.left m.right m.result m.rank) no_row_lem r e in
@@ -80,7 +81,7 @@ module _ (m : Model) (ok : Accepted m) where
 
   -- ---- merges keep what ids spell, and that no piece is empty
 
-  module _ (ids : List ℕ) (c : Candidate) (e : next_merge (row_of (merge_rows m)) ids ≡ some c) where
+  module _ (ids : List ℕ) (c : Candidate) (e : next_merge (row_of (merge_rows m)) ids ≡ Some c) where
     pub merge_spells : spelling (pieces_of m) (merged_at c ids) ≡ spelling (pieces_of m) ids
     merge_spells =
         let f = next_found (row_of (merge_rows m)) ids c e in
@@ -132,9 +133,9 @@ module _ (m : Model) (ok : Accepted m) where
       first : all (has_bytes (pieces_of m)) (b ∷ back) ≡ true
       first = ap (all (has_bytes (pieces_of m))) (sym q) ∙ sym (all_join (has_bytes (pieces_of m)) units) ∙ there
 
-      go : (o : Option Row) → row_of (merge_rows m) a b ≡ o → row_of (merge_rows m) a b ≡ none
-      go none e = e
-      go (some r) e =
+      go : (o : Option Row) → row_of (merge_rows m) a b ≡ o → row_of (merge_rows m) a b ≡ None
+      go None e = e
+      go (Some r) e =
           absurd
           (over (spelling (pieces_of m) front) (piece (pieces_of m) a) (piece (pieces_of m) b) (spelling (pieces_of m) back)
           (some_bytes (pieces_of m) a
@@ -152,7 +153,7 @@ module _ (m : Model) (ok : Accepted m) where
       let there = and_right (all (has_bytes (pieces_of m)) ids) (all (all (has_bytes (pieces_of m))) units) bytes in
       (no_row ids units apart.0 here there, spelled_apart units apart.1 there)
 
-  kept : (before : List (List ℕ)) (ids : List ℕ) (after : List (List ℕ)) (c : Candidate) → next_merge (row_of (merge_rows m)) ids ≡ some c
+  kept : (before : List (List ℕ)) (ids : List ℕ) (after : List (List ℕ)) (c : Candidate) → next_merge (row_of (merge_rows m)) ids ≡ Some c
       → SpelledApart (before ++ ids ∷ after) → SpelledApart (before ++ merged_at c ids ∷ after)
   kept before ids after c e k =
       record {
@@ -166,18 +167,18 @@ module _ (m : Model) (ok : Accepted m) where
 
   -- ---- starting ids
 
-  own_spells : (char : List ℕ) (id : ℕ) → own_id (vocabulary_of m) char ≡ some id → piece (pieces_of m) id ≡ char
+  own_spells : (char : List ℕ) (id : ℕ) → own_id (vocabulary_of m) char ≡ Some id → piece (pieces_of m) id ≡ char
   unfolding own_id vocabulary_of lookup_id
   own_spells char id e =
       let f = find-some (λ (id : ℕ). same (piece (pieces_of m) id) char) m.lookup 0 id e in
       same-eq (piece (pieces_of m) id) char f.passes
 
-  fallback_spells : (b id : ℕ) → fallback_id m.fallback b ≡ some id → piece (pieces_of m) id ≡ b ∷ []
+  fallback_spells : (b id : ℕ) → fallback_id m.fallback b ≡ Some id → piece (pieces_of m) id ≡ b ∷ []
   unfolding fallback_id fallback_fits
   fallback_spells b id e = go (ltb b (length m.fallback)) (eqb (get_or m.fallback b no_id) no_id) refl refl e
     where
-      go : (x y : Bool) → ltb b (length m.fallback) ≡ x → eqb (get_or m.fallback b no_id) no_id ≡ y → cond y none (some (get_or m.fallback b no_id)) ≡ some id → piece (pieces_of m) id ≡ b ∷ []
-      go x true p q e = absurd (none-ne-some id e)
+      go : (x y : Bool) → ltb b (length m.fallback) ≡ x → eqb (get_or m.fallback b no_id) no_id ≡ y → cond y None (Some (get_or m.fallback b no_id)) ≡ Some id → piece (pieces_of m) id ≡ b ∷ []
+      go x true p q e = absurd (none-some id e)
       go false false p q e =
           clash q (eq-eqb (get_or m.fallback b no_id) no_id (get_or-eq_default m.fallback no_id (ltb-false b (length m.fallback) p)))
       go true false p q e =
@@ -186,7 +187,7 @@ module _ (m : Model) (ok : Accepted m) where
           let fits : (eqb (get_or m.fallback b no_id) no_id || ltb (get_or m.fallback b no_id) (length (pieces_of m)) && same (piece (pieces_of m) (get_or m.fallback b no_id)) (b ∷ [])) ≡ true =
           ap (fallback_fits (pieces_of m)) (sym at) ∙ all_holds (fallback_fits (pieces_of m)) (numbered m.fallback) b (0, no_id) ok.fallback_fit (omega (arith, length-numbered m.fallback)) in
           let known = ap (λ (t : Bool). t || ltb (get_or m.fallback b no_id) (length (pieces_of m)) && same (piece (pieces_of m) (get_or m.fallback b no_id)) (b ∷ [])) (sym q) ∙ fits in
-          ap (piece (pieces_of m)) (sym (some-injective (get_or m.fallback b no_id) id e))
+          ap (piece (pieces_of m)) (sym (same_Some (get_or m.fallback b no_id) id e))
           ∙ same-eq (piece (pieces_of m) (get_or m.fallback b no_id)) (b ∷ [])
           (and_right (ltb (get_or m.fallback b no_id) (length (pieces_of m))) (same (piece (pieces_of m) (get_or m.fallback b no_id)) (b ∷ [])) known)
 
@@ -220,8 +221,8 @@ module _ (m : Model) (ok : Accepted m) where
       (fallbacks_spell bytes (or_right (is_missing (fallback_id m.fallback b)) (any (λ (b : ℕ). is_missing (fallback_id m.fallback b)) bytes) e))
     where
       go : (o : Option ℕ) → fallback_id m.fallback b ≡ o → is_missing o ≡ false → Spells (b ∷ []) (if_any o)
-      go none p q = clash q refl
-      go (some id) p q = one_spells (b ∷ []) id (omega arith) (fallback_spells b id p)
+      go None p q = clash q refl
+      go (Some id) p q = one_spells (b ∷ []) id (omega arith) (fallback_spells b id p)
 
   -- The starting ids of a character that is not dropped spell it.
   pub start_spells : (char : List ℕ) → 0 < length char → is_dropped (vocabulary_of m) char ≡ false → Spells char (starting_ids (vocabulary_of m) char)
@@ -230,8 +231,8 @@ module _ (m : Model) (ok : Accepted m) where
     where
       go : (o : Option ℕ) → own_id (vocabulary_of m) char ≡ o → (is_missing o && any (λ (b : ℕ). is_missing (fallback_id m.fallback b)) char) ≡ false
           → Spells char (cond (is_missing o) (join_map (λ (b : ℕ). if_any (fallback_id m.fallback b)) char) (if_any o))
-      go none p q = fallbacks_spell char q
-      go (some id) p q = one_spells char id pos (own_spells char id p)
+      go None p q = fallbacks_spell char q
+      go (Some id) p q = one_spells char id pos (own_spells char id p)
 
   pub starts_spell : (chars : List (List ℕ)) → all (λ (c : List ℕ). not (is_empty c)) chars ≡ true → any (is_dropped (vocabulary_of m)) chars ≡ false → Spells (join chars) (join_map (starting_ids (vocabulary_of m)) chars)
   starts_spell [] h e = spells_nil
@@ -249,11 +250,11 @@ module _ (m : Model) (ok : Accepted m) where
   spelt : (units : List (List (List ℕ))) → all (all (λ (c : List ℕ). not (is_empty c))) units ≡ true → any (is_dropped (vocabulary_of m)) (join units) ≡ false → Spelt units
   spelt [] h e = record { strings = refl; bytes = refl }
   spelt (unit ∷ units) h e =
-      let some = all (λ (c : List ℕ). not (is_empty c)) in
+      let nonempty = all (λ (c : List ℕ). not (is_empty c)) in
       let dropped = any (is_dropped (vocabulary_of m)) in
       let parts : (dropped unit || dropped (join units)) ≡ false = sym (any_append (is_dropped (vocabulary_of m)) unit (join units)) ∙ e in
-      let here = starts_spell unit (and_left (some unit) (all some units) h) (or_left (dropped unit) (dropped (join units)) parts) in
-      let there = spelt units (and_right (some unit) (all some units) h) (or_right (dropped unit) (dropped (join units)) parts) in
+      let here = starts_spell unit (and_left (nonempty unit) (all nonempty units) h) (or_left (dropped unit) (dropped (join units)) parts) in
+      let there = spelt units (and_right (nonempty unit) (all nonempty units) h) (or_right (dropped unit) (dropped (join units)) parts) in
       record { strings = ap₂ {C = List (List ℕ)} ◌∷◌ here.spelled there.strings; bytes = and_both here.bytes there.bytes }
 
   each : (starts : List (List ℕ)) → map (spelling (pieces_of m)) (map (merged (row_of (merge_rows m))) starts) ≡ map (spelling (pieces_of m)) starts
@@ -261,19 +262,19 @@ module _ (m : Model) (ok : Accepted m) where
   each (ids ∷ starts) = ap₂ {C = List (List ℕ)} ◌∷◌ (merged_spells ids) (each starts)
 
   -- Units no character of which is dropped, over whose borders no piece reaches.
-  module _ (units : List (List (List ℕ))) (some : all (all (λ (c : List ℕ). not (is_empty c))) units ≡ true) (undropped : any (is_dropped (vocabulary_of m)) (join units) ≡ false) where
+  module _ (units : List (List (List ℕ))) (nonempty : all (all (λ (c : List ℕ). not (is_empty c))) units ≡ true) (undropped : any (is_dropped (vocabulary_of m)) (join units) ≡ false) where
     -- Merging them apart gives what merging all their starting ids gives.
     pub chars-merge : StringsApart (pieces_of m) (map join units)
         → merged (row_of (merge_rows m)) (join_map (starting_ids (vocabulary_of m)) (join units)) ≡ join (map (merged (row_of (merge_rows m))) (map (join_map (starting_ids (vocabulary_of m))) units))
     chars-merge apart =
-        let s = spelt units some undropped in
+        let s = spelt units nonempty undropped in
         ap (merged (row_of (merge_rows m))) (sym (join_map-join (starting_ids (vocabulary_of m)) units))
         ∙ units-merge (map (join_map (starting_ids (vocabulary_of m))) units) (record { apart = subst (StringsApart (pieces_of m)) (sym s.strings) apart; bytes = s.bytes })
 
     -- The merged ids of all spell their characters.
     pub chars-spell : spelling (pieces_of m) (join (map (merged (row_of (merge_rows m))) (map (join_map (starting_ids (vocabulary_of m))) units))) ≡ join (join units)
     chars-spell =
-        let s = spelt units some undropped in
+        let s = spelt units nonempty undropped in
         let starts = map (join_map (starting_ids (vocabulary_of m))) units in
         sym (join_map-join (piece (pieces_of m)) (map (merged (row_of (merge_rows m))) starts))
         ∙ ap join (each starts ∙ s.strings)

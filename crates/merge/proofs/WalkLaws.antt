@@ -1,11 +1,11 @@
 -- Laws of a walk over the characters of a unit: what one gives, and the walk from character to character. Assumes nothing.
+use Rattle.std.specs.Prelude.{Option, None, Some}
 use Prim.Native.Nat.{ℕ, suc, ◌+◌, ◌-◌, ◌≤◌, ◌<◌, min, max}
 use native.Mathlib.Nat.{zero-add, sub-zero, zero-min, suc-min-suc}
 use native.Mathlib.Omega.{arith}
 use mathlib.Core.Path.{◌≡◌, refl, sym, ap, ◌∙◌}
 use mathlib.Core.Bool.{Bool, true, false, not, cond, ◌&&◌}
 use mathlib.Core.List.{List, [], ◌∷◌, ◌++◌, append-nil}
-use mathlib.Core.Option.{Option, none, some}
 use borrow.Author.Tests.{not-true, not-false}
 use lib.ListN.{length, take, drop, set, length-take, length-drop, drop_of_length-le}
 use Rattle.utf8.specs.Lists.{join_map, same}
@@ -15,11 +15,9 @@ use Rattle.utf8.proofs.Lists.{part_to_end}
 use Rattle.utf8.proofs.Characters.{chars-next, chars-nil, char_width-le_four, char_ends}
 use Rattle.model.specs.Mark.{mark, space}
 use Rattle.model.specs.Model.{fallback_id}
-use Rattle.merge.specs.declared.Own.{Own}
-use Rattle.merge.specs.declared.Own.TheVariants.{Id, Missing}
 use Rattle.merge.specs.declared.Symbols.{Symbols}
 use Rattle.merge.specs.Start.{if_any, is_missing, fallback_ids, lacks_byte, starting_ids_by, is_dropped_by, as_mark, unit_chars}
-use Rattle.merge.specs.inner.Laid.{Laid, id_of, laid, laid_in, char_laid, marked_chars, unit_laid, unit_symbols}
+use Rattle.merge.specs.inner.Laid.{Laid, laid, laid_in, char_laid, marked_chars, unit_laid, unit_symbols}
 use Rattle.merge.proofs.Laying.{Counted, counted_start, counted-part, counted-ended, Laying, laying_start, laying_part, laying_ended, laying_one, laying_full}
 
 -- ---- one character
@@ -33,8 +31,8 @@ laid-first : (id : ℕ) (out : List ℕ) → 0 < length out → ◌≡◌ {A = L
 laid-first id [] h = absurd (omega arith)
 laid-first id (cell ∷ out) h = rw (suc-min-suc 0 (length out), zero-min (length out))
 
-module _ (own : List ℕ → Option ℕ) (fallback char out : List ℕ) {o : Own} (told : id_of o ≡ own char) where
-  module _ {id : ℕ} (e : o ≡ Id id) where
+module _ (own : List ℕ → Option ℕ) (fallback char out : List ℕ) {o : Option ℕ} (told : o ≡ own char) where
+  module _ {id : ℕ} (e : o ≡ Some id) where
     alone : char_laid own fallback char out ≡ laid_in (id ∷ []) 0 out
     unfolding char_laid starting_ids_by is_dropped_by
     alone = rw (← told, e)
@@ -45,7 +43,7 @@ module _ (own : List ℕ → Option ℕ) (fallback char out : List ℕ) {o : Own
     pub own_put : 0 < length out → ◌≡◌ {A = Laid} (record { symbols = record { count = 1; drops = 0 }; out = set out 0 id }) (char_laid own fallback char out)
     own_put h = laid-first id out h ∙ sym alone
 
-  pub own_lacking : o ≡ Missing → laid_in (fallback_ids fallback char) (cond (lacks_byte fallback char) 1 0) out ≡ char_laid own fallback char out
+  pub own_lacking : o ≡ None → laid_in (fallback_ids fallback char) (cond (lacks_byte fallback char) 1 0) out ≡ char_laid own fallback char out
   unfolding char_laid starting_ids_by is_dropped_by
   own_lacking e = rw (← told, e)
 
@@ -107,8 +105,8 @@ fallback_few fallback [] = omega arith
 fallback_few fallback (b ∷ char) = go (fallback_id fallback b) (fallback_few fallback char)
   where
     go : (o : Option ℕ) → length (join_map (λ (b : ℕ). if_any (fallback_id fallback b)) char) ≤ length char → length (if_any o ++ join_map (λ (b : ℕ). if_any (fallback_id fallback b)) char) ≤ suc (length char)
-    go none h = omega arith
-    go (some id) h = omega arith
+    go None h = omega arith
+    go (Some id) h = omega arith
 
 module _ (own : List ℕ → Option ℕ) (fallback : List ℕ) where
   starting_few : (char : List ℕ) → length (starting_ids_by own fallback char) ≤ max 1 (length char)
@@ -116,8 +114,8 @@ module _ (own : List ℕ → Option ℕ) (fallback : List ℕ) where
   starting_few char = go (own char)
     where
       go : (o : Option ℕ) → length (cond (is_missing o) (fallback_ids fallback char) (if_any o)) ≤ max 1 (length char)
-      go none = omega (arith, fallback_few fallback char)
-      go (some id) = omega arith
+      go None = omega (arith, fallback_few fallback char)
+      go (Some id) = omega arith
 
   drops-cons : (char : List ℕ) (rest : List (List ℕ)) → lists.count (is_dropped_by own fallback) (char ∷ rest) ≡ cond (is_dropped_by own fallback char) 1 0 + lists.count (is_dropped_by own fallback) rest
   drops-cons char rest = go (is_dropped_by own fallback char)
@@ -199,7 +197,7 @@ walked_next {own} {fallback} {char} {before} {out} {after} {s} {chars} {rest} {n
     }
 
 -- A character that has a piece is its id alone, and no drop.
-module _ (own : List ℕ → Option ℕ) (fallback : List ℕ) {char : List ℕ} {rest whole : List (List ℕ)} {id : ℕ} (is : whole ≡ char ∷ rest) (has : own char ≡ some id) where
+module _ (own : List ℕ → Option ℕ) (fallback : List ℕ) {char : List ℕ} {rest whole : List (List ℕ)} {id : ℕ} (is : whole ≡ char ∷ rest) (has : own char ≡ Some id) where
   ids-one : ids_of own fallback whole ≡ id ∷ ids_of own fallback rest
   unfolding starting_ids_by
   ids-one = rw (is, has)
@@ -208,7 +206,7 @@ module _ (own : List ℕ → Option ℕ) (fallback : List ℕ) {char : List ℕ}
   unfolding is_dropped_by
   drops-none = rw (is, has)
 
-module _ {own : List ℕ → Option ℕ} {fallback char : List ℕ} {chars rest whole : List (List ℕ)} {room id n d : ℕ} (t : Tallied own fallback chars whole room n d) (is : whole ≡ char ∷ rest) (has : own char ≡ some id) where
+module _ {own : List ℕ → Option ℕ} {fallback char : List ℕ} {chars rest whole : List (List ℕ)} {room id n d : ℕ} (t : Tallied own fallback chars whole room n d) (is : whole ≡ char ∷ rest) (has : own char ≡ Some id) where
   counted-one : Counted (ids_of own fallback chars) (ids_of own fallback rest) room (n + min 1 (room - n))
   counted-one = counted-part (id ∷ []) (ids_of own fallback rest) (ids-one own fallback is has) t.count
 
@@ -222,7 +220,7 @@ module _ {own : List ℕ → Option ℕ} {fallback char : List ℕ} {chars rest 
       let same' : n + min 1 (room - n) ≡ n = omega arith in
       record { count = rw same' at counted-one; drops = t.drops ∙ rw (drops-none own fallback is has) }
 
-module _ {own : List ℕ → Option ℕ} {fallback char before out : List ℕ} {chars rest whole : List (List ℕ)} {id n d : ℕ} (w : Walked own fallback chars whole before out n d) (is : whole ≡ char ∷ rest) (has : own char ≡ some id) where
+module _ {own : List ℕ → Option ℕ} {fallback char before out : List ℕ} {chars rest whole : List (List ℕ)} {id n d : ℕ} (w : Walked own fallback chars whole before out n d) (is : whole ≡ char ∷ rest) (has : own char ≡ Some id) where
   walked_one : n < length out → Walked own fallback chars rest before (set out n id) (n + 1) d
   walked_one h = record { laying = laying_one (ids-one own fallback is has) w.laying h; drops = w.drops ∙ rw (drops-none own fallback is has) }
 
@@ -243,7 +241,7 @@ pub onward_next : {own : List ℕ → Option ℕ} {fallback char out₀ out afte
 onward_next o is g = record { goes = λ w. walked_next (o.goes w) is g }
 
 module _ {own : List ℕ → Option ℕ} {fallback char out₀ out : List ℕ} {rest₀ rest whole : List (List ℕ)} {id n₀ d₀ n d : ℕ}
-    (o : Onward own fallback rest₀ whole out₀ n₀ d₀ out n d) (is : whole ≡ char ∷ rest) (has : own char ≡ some id) where
+    (o : Onward own fallback rest₀ whole out₀ n₀ d₀ out n d) (is : whole ≡ char ∷ rest) (has : own char ≡ Some id) where
   pub onward_one : n < length out → Onward own fallback rest₀ rest out₀ n₀ d₀ (set out n id) (n + 1) d
   onward_one h = record { goes = λ w. walked_one (o.goes w) is has h }
 

@@ -1,7 +1,6 @@
 -- The merge of a unit (rule 10.1).
 -- The rows are given as any function from a pair of ids to its row.
-use Rattle.std.specs.Prelude.{ℕ, zero, suc, ◌+◌, cond, List, [], ◌∷◌, ◌++◌, leb, length, take, drop}
-use Rattle.std.proofs.Math.Option.{Option, none, some}
+use Rattle.std.specs.Prelude.{ℕ, zero, suc, ◌+◌, cond, List, [], ◌∷◌, ◌++◌, leb, length, take, drop, Option, None, Some}
 use Rattle.utf8.specs.Lists.{neighbours}
 use Rattle.model.specs.Model.{Row}
 
@@ -11,8 +10,8 @@ pub record Candidate : Type 0 where
   pub row : Row
 
 abbrev pub candidate_at : ℕ → Option Row → List Candidate
-candidate_at place none = []
-candidate_at place (some row) = record { place = place; row = row } ∷ []
+candidate_at place None = []
+candidate_at place (Some row) = record { place = place; row = row } ∷ []
 
 -- The candidates among adjacent pairs, from left to right; place is that of the first pair.
 abbrev pub candidates_from : (ℕ → ℕ → Option Row) → ℕ → List (ℕ × ℕ) → List Candidate
@@ -24,12 +23,12 @@ candidates row ids = candidates_from row 0 (neighbours ids)
 
 -- The candidate of lower rank, of equals the first.
 abbrev pub lower_rank : Candidate → Option Candidate → Candidate
-lower_rank c none = c
-lower_rank c (some d) = cond (leb c.row.rank d.row.rank) c d
+lower_rank c None = c
+lower_rank c (Some d) = cond (leb c.row.rank d.row.rank) c d
 
 abbrev pub lowest_rank : List Candidate → Option Candidate
-lowest_rank [] = none
-lowest_rank (c ∷ cs) = some (lower_rank c (lowest_rank cs))
+lowest_rank [] = None
+lowest_rank (c ∷ cs) = Some (lower_rank c (lowest_rank cs))
 
 -- The next merge.
 unfoldable pub next_merge : (ℕ → ℕ → Option Row) → List ℕ → Option Candidate
@@ -41,8 +40,8 @@ merged_at c ids = take c.place ids ++ c.row.result ∷ drop (c.place + 2) ids
 
 -- go on after the next merge, or stop where there is none
 abbrev pub merge_then : Option Candidate → (List ℕ → List ℕ) → List ℕ → List ℕ
-merge_then none go_on ids = ids
-merge_then (some c) go_on ids = go_on (merged_at c ids)
+merge_then None go_on ids = ids
+merge_then (Some c) go_on ids = go_on (merged_at c ids)
 
 -- Each merge makes the list shorter by one, so as many turns as there are ids are enough.
 abbrev pub merged_for : ℕ → (ℕ → ℕ → Option Row) → List ℕ → List ℕ

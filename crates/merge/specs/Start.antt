@@ -1,6 +1,5 @@
 -- Starting ids, and what is dropped.
-use Rattle.std.specs.Prelude.{ℕ, Bool, true, false, cond, ◌&&◌, List, [], ◌∷◌, map}
-use Rattle.std.proofs.Math.Option.{Option, none, some}
+use Rattle.std.specs.Prelude.{ℕ, Bool, true, false, cond, ◌&&◌, List, [], ◌∷◌, map, Option, None, Some}
 use Rattle.utf8.specs.Lists.{any, join_map, same}
 use Rattle.utf8.specs.Chars.{chars}
 use Rattle.model.specs.Model.{Model, pieces_of, lookup_id, fallback_id}
@@ -8,12 +7,12 @@ use Rattle.model.specs.Mark.{mark, space}
 
 -- The id where there is one.
 abbrev pub if_any : Option ℕ → List ℕ
-if_any none = []
-if_any (some id) = id ∷ []
+if_any None = []
+if_any (Some id) = id ∷ []
 
 abbrev pub is_missing : Option ℕ → Bool
-is_missing none = true
-is_missing (some id) = false
+is_missing None = true
+is_missing (Some id) = false
 
 -- The tables that starting ids are found by.
 pub record Vocabulary : Type 0 where

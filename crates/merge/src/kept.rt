@@ -1,14 +1,12 @@
 // The ranked merge of units that are not too long: the row of each pair is kept, and after a merge only those beside it are looked up.
-ghost use Rattle.std.specs.Prelude.{◌≡◌, map, ◌+◌, ◌-◌, ◌≤◌, ◌<◌, length, get_or};
-ghost use Rattle.std.proofs.Math.Option.{none};
-ghost use Rattle.merge.specs.inner.Turns.{row_in, Merged, merged_front};
-ghost use Rattle.merge.specs.inner.Keys.{row_span, key_row, pair_row, next_rows, rows_turn, closed_at, Kept};
+ghost use Rattle.std.specs.Prelude.{◌≡◌, map, ◌+◌, ◌-◌, ◌≤◌, ◌<◌, length, get_or, None};
+ghost use Rattle.merge.specs.inner.Turns.{row_by, Merged, merged_front};
+ghost use Rattle.merge.specs.inner.Keys.{row_span, key_row, ranked_by, next_rows, rows_turn, Kept};
 
-use crate::Turn;
-use crate::ranked::{NO_RANK, merge_at};
-use index::find_row_from;
-use model::Found;
-use model::tables::{number_at, wide};
+use crate::Joining;
+use crate::ranked::{NO_RANK, close_gap, merge_at};
+use index::RowIndex;
+use model::tables::number_at;
 
 // A row and its rank are kept as one number, for so many rows.
 pub(crate) const ROW_SPAN: usize = 2147483648;
@@ -24,233 +22,104 @@ pub(crate) const MIDDLE: usize = 256;
 pub(crate) const LONG: usize = 4608;
 
 // The row of a pair and its rank.
-fn pair_key(
-    left: &[u32],
-    right: &[u32],
-    rank: &[u32],
-    row_index: &[u32],
-    shift: u32,
-    l: u32,
-    r: u32,
-) -> usize
-    requires { length left.now ≤ row_span }
-    ensures { key_row result ≡ pair_row left.now right.now rank.now row_index.now shift l r }
+fn pair_key(rows: &RowIndex<'_>, l: u32, r: u32) -> usize
+    requires { length rows.now.rows.left.now ≤ row_span }
+    ensures { key_row result ≡ ranked_by rows.now l r }
 {
-    match find_row_from(left, right, row_index, shift, l, r) {
-        Found::At(row) => wide(number_at(rank, row)) * ROW_SPAN + row,
-        Found::Nothing => NO_KEY,
+    match rows.find(l, r) {
+        Some(row) => number_at(rows.rows.rank, row) as usize * ROW_SPAN + row,
+        None => NO_KEY,
     }
 }
 
 // That of the id at `place` with the next.
-fn key_at(
-    left: &[u32],
-    right: &[u32],
-    rank: &[u32],
-    row_index: &[u32],
-    shift: u32,
-    ids: &[u32],
-    place: usize,
-) -> usize
-    requires left_len_bound { length left.now ≤ row_span }
+fn key_at(rows: &RowIndex<'_>, ids: &[u32], place: usize) -> usize
+    requires left_len_bound { length rows.now.rows.left.now ≤ row_span }
     requires place_in_bounds { place < length ids.now }
-    ensures { key_row result ≡ get_or (next_rows (pair_row left.now right.now rank.now row_index.now shift) ids.now) place none }
+    ensures { key_row result ≡ get_or (next_rows (ranked_by rows.now) ids.now) place None }
 {
     let next = place + 1;
     if ids.len() <= next {
         return NO_KEY;
     }
-    pair_key(left, right, rank, row_index, shift, ids[place], ids[next])
+    pair_key(rows, ids[place], ids[next])
 }
 
 // Looks up those from `from` up to `to`.
-fn fill_keys(
-    left: &[u32],
-    right: &[u32],
-    rank: &[u32],
-    row_index: &[u32],
-    shift: u32,
-    ids: &[u32],
-    keys: &mut [usize],
-    from: usize,
-    to: usize,
-)
-    requires left_len_bound { length left.now ≤ row_span }
+fn fill_keys(rows: &RowIndex<'_>, ids: &[u32], keys: &mut [usize], from: usize, to: usize)
+    requires left_len_bound { length rows.now.rows.left.now ≤ row_span }
     requires keys_len { length keys.old ≡ length ids.now }
     requires from_le_to { (from ≤ to) × (to ≤ length ids.now) }
-    requires kept { Kept (next_rows (pair_row left.now right.now rank.now row_index.now shift) ids.now) (map key_row keys.old) from to }
-    ensures { map key_row keys.new ≡ next_rows (pair_row left.now right.now rank.now row_index.now shift) ids.now }
+    requires kept { Kept (next_rows (ranked_by rows.now) ids.now) (map key_row keys.old) from to }
+    ensures { map key_row keys.new ≡ next_rows (ranked_by rows.now) ids.now }
 {
-    let mut i = from;
-    while i < to {
-        keys[i] = key_at(left, right, rank, row_index, shift, ids, i);
-        i += 1;
+    for i in from..to {
+        keys[i] = key_at(rows, ids, i);
     }
 }
 
 // The next merge: the lowest rank, the leftmost of equals.
-fn next_kept(res: &[u32], keys: &[usize]) -> Turn
+fn next_kept(res: &[u32], keys: &[usize]) -> Option<Joining>
     ensures { result ≡ rows_turn res.now 0 (map key_row keys.now) }
 {
     let mut lowest = NO_RANK;
     let mut best_place = 0;
     let mut best_key = 0;
-    let mut i = 0;
-    while i < keys.len() {
+    for i in 0..keys.len() {
         let this = keys[i] / ROW_SPAN;
         if this < lowest {
             lowest = this;
             best_place = i;
             best_key = keys[i];
-            i += 1;
-        } else {
-            i += 1;
         }
     }
     if NO_RANK <= lowest {
-        return Turn::Stop;
+        return None;
     }
-    Turn::Merge {
+    Some(Joining {
         place: best_place,
         result: number_at(res, best_key % ROW_SPAN),
         rank: lowest as u32,
-    }
-}
-
-// Takes out what stands behind `place`: what follows moves one cell to the left.
-fn close_gap(keys: &mut [usize], place: usize)
-    requires { place + 2 ≤ length keys.old }
-    ensures { keys.new ≡ closed_at place keys.old }
-{
-    let mut at = place + 1;
-    let mut next = place + 2;
-    while next < keys.len() {
-        keys[at] = keys[next];
-        at = next;
-        next += 1;
-    }
-    keys[at] = 0;
-}
-
-// The place before, or the first.
-fn before(place: usize) -> usize
-    ensures { result ≡ place - 1 }
-{
-    if place == 0 {
-        return 0;
-    }
-    place - 1
+    })
 }
 
 // Merges the first `count` ids in place until no pair has a row, and answers how many are left.
-fn merge_kept(
-    left: &[u32],
-    right: &[u32],
-    res: &[u32],
-    rank: &[u32],
-    row_index: &[u32],
-    shift: u32,
-    ids: &mut [u32],
-    count: usize,
-    keys: &mut [usize],
-) -> usize
-    requires left_len_bound { length left.now ≤ row_span }
+fn merge_kept(rows: &RowIndex<'_>, ids: &mut [u32], count: usize, keys: &mut [usize]) -> usize
+    requires left_len_bound { length rows.now.rows.left.now ≤ row_span }
     requires count_in_bounds { (count ≤ length ids.old) × (count ≤ length keys.old) }
-    ensures { ◌≡◌ {A = Merged} (record { count = result; ids = ids.new }) (merged_front (row_in left.now right.now res.now rank.now row_index.now shift) count ids.old) }
+    ensures { ◌≡◌ {A = Merged} (record { count = result; ids = ids.new }) (merged_front (row_by rows.now) count ids.old) }
 {
     let mut n = count;
     let mut from = 0;
     let mut to = count;
     loop {
-        fill_keys(
-            left,
-            right,
-            rank,
-            row_index,
-            shift,
-            &ids[..n],
-            &mut keys[..n],
-            from,
-            to,
-        );
-        match next_kept(res, &keys[..n]) {
-            Turn::Stop => {
+        fill_keys(rows, &ids[..n], &mut keys[..n], from, to);
+        match next_kept(rows.rows.result, &keys[..n]) {
+            None => {
                 return n;
             }
-            Turn::Merge {
-                place,
-                result: joined,
-                rank: _,
-            } => {
-                merge_at(&mut ids[..n], place, joined);
-                close_gap(&mut keys[..n], place);
+            Some(joining) => {
+                merge_at(&mut ids[..n], joining.place, joining.result);
+                close_gap(&mut keys[..n], joining.place, 0);
                 n -= 1;
-                from = before(place);
-                to = place + 1;
+                from = joining.place.saturating_sub(1);
+                to = joining.place + 1;
             }
         }
     }
 }
 
-// The same for a short unit.
-pub(crate) fn merge_short(
-    left: &[u32],
-    right: &[u32],
-    res: &[u32],
-    rank: &[u32],
-    row_index: &[u32],
-    shift: u32,
+// The same with room for the rows of so many ids.
+pub(crate) fn merge_within<const ROOM: usize>(
+    rows: &RowIndex<'_>,
     ids: &mut [u32],
     count: usize,
 ) -> usize
-    requires left_len_bound { length left.now ≤ row_span }
-    requires count_in_bounds { (count ≤ length ids.old) × (count ≤ 32) }
-    ensures { ◌≡◌ {A = Merged} (record { count = result; ids = ids.new }) (merged_front (row_in left.now right.now res.now rank.now row_index.now shift) count ids.old) }
+    requires room_bounded { ROOM ≤ 4608 }
+    requires left_len_bound { length rows.now.rows.left.now ≤ row_span }
+    requires count_in_bounds { (count ≤ length ids.old) × (count ≤ ROOM) }
+    ensures { ◌≡◌ {A = Merged} (record { count = result; ids = ids.new }) (merged_front (row_by rows.now) count ids.old) }
 {
-    let mut keys = [NO_KEY; SHORT];
-    merge_kept(
-        left, right, res, rank, row_index, shift, ids, count, &mut keys,
-    )
-}
-
-// For one of middle length.
-pub(crate) fn merge_middle(
-    left: &[u32],
-    right: &[u32],
-    res: &[u32],
-    rank: &[u32],
-    row_index: &[u32],
-    shift: u32,
-    ids: &mut [u32],
-    count: usize,
-) -> usize
-    requires left_len_bound { length left.now ≤ row_span }
-    requires count_in_bounds { (count ≤ length ids.old) × (count ≤ 256) }
-    ensures { ◌≡◌ {A = Merged} (record { count = result; ids = ids.new }) (merged_front (row_in left.now right.now res.now rank.now row_index.now shift) count ids.old) }
-{
-    let mut keys = [NO_KEY; MIDDLE];
-    merge_kept(
-        left, right, res, rank, row_index, shift, ids, count, &mut keys,
-    )
-}
-
-// And for a long one.
-pub(crate) fn merge_long(
-    left: &[u32],
-    right: &[u32],
-    res: &[u32],
-    rank: &[u32],
-    row_index: &[u32],
-    shift: u32,
-    ids: &mut [u32],
-    count: usize,
-) -> usize
-    requires left_len_bound { length left.now ≤ row_span }
-    requires count_in_bounds { (count ≤ length ids.old) × (count ≤ 4608) }
-    ensures { ◌≡◌ {A = Merged} (record { count = result; ids = ids.new }) (merged_front (row_in left.now right.now res.now rank.now row_index.now shift) count ids.old) }
-{
-    let mut keys = [NO_KEY; LONG];
-    merge_kept(
-        left, right, res, rank, row_index, shift, ids, count, &mut keys,
-    )
+    let mut keys = [NO_KEY; ROOM];
+    merge_kept(rows, ids, count, &mut keys)
 }

@@ -2,15 +2,17 @@
 
 #![tactic(auto)]
 
+use index::PieceIndex;
+
 mod kept;
 pub mod ranked;
 pub mod start;
 
-// What a search for a character's own piece gives.
+// What units are spelled by: the pieces, and the fallback ids of bytes.
 #[derive(Clone, Copy)]
-pub enum Own {
-    Id(u32),
-    Missing,
+pub struct Speller<'a> {
+    pub index: PieceIndex<'a>,
+    pub fallback: &'a [u32],
 }
 
 // How many starting ids a unit has, and how many of its characters are dropped.
@@ -20,15 +22,10 @@ pub struct Symbols {
     pub drops: usize,
 }
 
-// What the next turn of a merge does.
+// What the next turn of a merge does: the pair at `place` becomes `result`.
 #[derive(Clone, Copy)]
-pub enum Turn {
-    // The pair at `place` becomes `result`.
-    Merge {
-        place: usize,
-        result: u32,
-        rank: u32,
-    },
-    // No pair has a row.
-    Stop,
+pub struct Joining {
+    pub place: usize,
+    pub result: u32,
+    pub rank: u32,
 }

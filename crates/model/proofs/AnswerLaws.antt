@@ -9,8 +9,10 @@ use lib.Dec.{eqb, leb, ltb}
 use Rattle.utf8.specs.Lists.{all}
 use Rattle.utf8.proofs.Tests.{and_left, and_right}
 use Rattle.model.specs.declared.Answer.{Answer}
+use Rattle.model.specs.declared.Refusal.{Refusal}
+use Rattle.model.specs.declared.Refusal.TheVariants.{WrongSize, OffsetsAstray, BadPiece, BadLookup, BadFallback, BadRow, BadToken, BadStep, BadText, NoRawPath, ScratchTooShort, ResultTooShort}
 use Rattle.model.specs.Model.{Model}
-use Rattle.model.specs.Answers.{lowest, refused}
+use Rattle.model.specs.Answers.{number_of, lowest, refused}
 use Rattle.model.specs.Check.{wrong_sizes, text_too_long, model_tests, check_number, check_outcome}
 
 -- No test has the number 0.
@@ -85,3 +87,18 @@ module _ (m : Model) where
   -- The same of an answer that is the check's.
   pub number-checked : (checked : Answer) → checked ≡ check_outcome m → checked.number ≡ check_number m
   number-checked checked e = ap (λ (a : Answer). a.number) e ∙ check-number
+
+-- A refusal's number is not that of a call that is accepted.
+pub refusal_number : (r : Refusal) → number_of r ≡ 0 → ⊥
+refusal_number WrongSize e = omega arith
+refusal_number OffsetsAstray e = omega arith
+refusal_number BadPiece e = omega arith
+refusal_number BadLookup e = omega arith
+refusal_number BadFallback e = omega arith
+refusal_number BadRow e = omega arith
+refusal_number BadToken e = omega arith
+refusal_number BadStep e = omega arith
+refusal_number (BadText place) e = omega arith
+refusal_number NoRawPath e = omega arith
+refusal_number ScratchTooShort e = omega arith
+refusal_number ResultTooShort e = omega arith

@@ -1,8 +1,8 @@
 -- What the tests of the model check give, from what the code has compared.
+use Rattle.std.specs.Prelude.{None, Some}
 use mathlib.Core.Path.{◌≡◌, refl, sym, ◌∙◌}
 use mathlib.Core.Bool.{Bool, true, false, ◌||◌, and-true, and-false}
 use mathlib.Core.List.{List, [], ◌∷◌}
-use mathlib.Core.Option.{none, some}
 use Prim.Native.Nat.{ℕ, suc, ◌+◌, ◌-◌, ◌≤◌, ◌<◌}
 use native.Mathlib.Nat.{suc-ne-zero, suc_inj, not-suc-le-zero}
 use native.Mathlib.Numerals.{add-one}
@@ -11,7 +11,7 @@ use borrow.Author.Tests.{lt-ltb, le-ltb, le-leb, lt-leb, eq-eqb, ne_eqb, ltb-tru
 use lib.Dec.{eqb, ltb}
 use lib.ListN.{length, get_or, take, drop, length-take, drop_of_length-le, get_or-eq_default}
 use lib.Seq.{drop-cons, get_or-take}
-use Rattle.utf8.specs.Lists.{any, same}
+use Rattle.utf8.specs.Lists.{any, same, join_map}
 use Rattle.utf8.proofs.Places.{any_append, get_or_inside}
 use Rattle.model.specs.Model.{piece, no_id, fallback_id, spans_of}
 use Rattle.model.specs.Check.{pair_too_long, pair_rises, fallback_fits, step_spans}
@@ -19,6 +19,14 @@ use Rattle.model.specs.declared.Span.{Span}
 use Rattle.model.specs.declared.Step.{Step}
 
 module _ (a b : ℕ) where
+  pub pair_too_long_is : ltb (a + 255) b ≡ pair_too_long (a, b)
+  unfolding pair_too_long
+  pair_too_long_is = go (ltb (a + 255) b) refl
+    where
+      go : (t : Bool) → ltb (a + 255) b ≡ t → t ≡ ltb 255 (b - a)
+      go true e = sym (lt-ltb 255 (b - a) (omega (arith, ltb-true (a + 255) b e)))
+      go false e = sym (le-ltb 255 (b - a) (omega (arith, ltb-false (a + 255) b e)))
+
   pub pair_too_long_lem : a + 255 < b → pair_too_long (a, b) ≡ true
   unfolding pair_too_long
   pair_too_long_lem h = lt-ltb 255 (b - a) (omega arith)
@@ -68,6 +76,12 @@ module _ (pieces : List (List ℕ)) (byte id : ℕ) where
   unfolding fallback_fits
   fits_byte n h = rw (ne_eqb id no_id n, lt-ltb id (length pieces) (has_id pieces id (omega arith)), same-one (piece pieces id) byte h)
 
+-- A test of the strings of all steps, step by step.
+pub any_spans : (test : Span → Bool) (steps : List Step) → any (λ (step : Step). any test (spans_of step)) steps ≡ any test (step_spans steps)
+unfolding step_spans
+any_spans test [] = refl
+any_spans test (step ∷ steps) = rw (any_append test (spans_of step) (join_map spans_of steps), any_spans test steps)
+
 -- Tests of the strings of the first count steps, one step more and the end.
 module _ (test : Span → Bool) (steps : List Step) (count i : ℕ) (d : Step) where
   spans_at : i < count → i < length steps → any test (step_spans (drop i (take count steps))) ≡ any test (spans_of (get_or steps i d)) || any test (step_spans (drop (i + 1) (take count steps)))
@@ -88,14 +102,14 @@ module _ (test : Span → Bool) (steps : List Step) (count i : ℕ) (d : Step) w
 
 -- The three ways to read a fallback id.
 module _ (fallback : List ℕ) (byte : ℕ) where
-  pub fallback-past : length fallback ≤ byte → fallback_id fallback byte ≡ none
+  pub fallback-past : length fallback ≤ byte → fallback_id fallback byte ≡ None
   unfolding fallback_id
   fallback-past h = rw (get_or-eq_default fallback no_id h)
 
-  pub fallback-none : byte < length fallback → get_or fallback byte 0 ≡ no_id → fallback_id fallback byte ≡ none
+  pub fallback-none : byte < length fallback → get_or fallback byte 0 ≡ no_id → fallback_id fallback byte ≡ None
   unfolding fallback_id
   fallback-none h e = rw (get_or_inside fallback byte no_id 0 h, eq-eqb (get_or fallback byte 0) no_id e)
 
-  pub fallback-some : (id : ℕ) → byte < length fallback → (get_or fallback byte 0 ≡ no_id → ⊥) → id ≡ get_or fallback byte 0 → some id ≡ fallback_id fallback byte
+  pub fallback-some : (id : ℕ) → byte < length fallback → (get_or fallback byte 0 ≡ no_id → ⊥) → id ≡ get_or fallback byte 0 → Some id ≡ fallback_id fallback byte
   unfolding fallback_id
   fallback-some id h e i = rw (get_or_inside fallback byte no_id 0 h, ne_eqb (get_or fallback byte 0) no_id e, i)

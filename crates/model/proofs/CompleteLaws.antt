@@ -1,4 +1,5 @@
 -- A lookup list that ascends and has as many entries of long pieces as there are such pieces leaves none of them out.
+use Rattle.std.specs.declared.cmp.Ordering.TheVariants.{Less}
 use mathlib.Core.Path.{◌≡◌, refl, ap, ◌∙◌}
 use mathlib.Core.Bool.{Bool, true, false, not, ◌&&◌}
 use mathlib.Core.List.{List, [], ◌∷◌}
@@ -11,7 +12,6 @@ use Rattle.utf8.specs.Lists.{is_empty, any, count, same}
 use Rattle.utf8.proofs.Tests.{clash, or_left, or_right, or_also, and_left, and_right, and_both}
 use Rattle.utf8.proofs.Places.{any-one, any_none}
 use Rattle.utf8.proofs.Counts.{count_most, count_fewer, count_same, count-within}
-use Rattle.model.specs.declared.Order.TheVariants.{Less}
 use Rattle.model.specs.Model.{piece}
 use Rattle.model.specs.ByteOrder.{byte_order, is_before}
 use Rattle.model.specs.Check.{names_no_piece, lookup_ascends, is_listed}

@@ -8,4 +8,3 @@ pub mod StringLaws
 pub mod Accepted
 pub mod AnswerLaws
 pub mod ReachLaws
-pub mod ClearLaws

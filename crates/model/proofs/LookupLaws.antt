@@ -1,4 +1,6 @@
 -- Laws of the lookup list: from entry to entry, and what a search in it gives.
+use Rattle.std.specs.Prelude.{Option, is_some}
+use Rattle.std.specs.declared.cmp.Ordering.TheVariants.{Less}
 use mathlib.Core.Path.{◌≡◌, refl, sym, ◌∙◌}
 use mathlib.Core.Bool.{Bool, true, false, not, ◌&&◌}
 use mathlib.Core.List.{List, [], ◌∷◌}
@@ -9,11 +11,9 @@ use lib.Dec.{leb, eqb}
 use lib.ListN.{length, get_or, drop, get_or-eq_default}
 use Rattle.utf8.specs.Lists.{is_empty, all, any, neighbours}
 use Rattle.utf8.proofs.Places.{any_found, any_next, any-ended, all_pair_next, all_pair_broken, all_pair_ended, all_pair_holds}
-use Rattle.model.specs.declared.Order.TheVariants.{Less}
-use Rattle.model.specs.declared.Found.{Found}
 use Rattle.model.specs.Model.{piece, lookup_id}
 use Rattle.model.specs.ByteOrder.{byte_order, is_before}
-use Rattle.model.specs.inner.Search.{piece_order, found_piece, id_at, is_at}
+use Rattle.model.specs.inner.Search.{piece_order, found_piece, id_at}
 use Rattle.model.specs.Check.{names_no_piece, lookup_ascends, is_listed, piece_missing}
 use Rattle.model.proofs.OrderLaws.{same-is-equal, less_is, keys_ascend}
 use Rattle.model.proofs.SearchLaws.{Falls, entry_found, found_any, keys_fall}
@@ -88,7 +88,7 @@ module _ (pieces : List (List ℕ)) (lookup : List ℕ) (ascends : lookup_ascend
         (λ i h. same-is-equal (piece pieces (get_or lookup i 0)) bytes)
 
     -- It finds a place exactly if the piece is listed.
-    pub listed_found : is_listed pieces lookup bytes ≡ is_at (found_piece pieces lookup bytes)
+    pub listed_found : is_listed pieces lookup bytes ≡ is_some (found_piece pieces lookup bytes)
     unfolding is_listed found_piece piece_order
     listed_found =
         sym
@@ -96,7 +96,7 @@ module _ (pieces : List (List ℕ)) (lookup : List ℕ) (ascends : lookup_ascend
         (λ i h. same-is-equal (piece pieces (get_or lookup i 0)) bytes))
 
     -- what a search for the same bytes gave says whether they are listed
-    pub listed_by : (key : List ℕ) (f : Found) → f ≡ found_piece pieces lookup key → key ≡ bytes → is_listed pieces lookup bytes ≡ is_at f
+    pub listed_by : (key : List ℕ) (f : Option ℕ) → f ≡ found_piece pieces lookup key → key ≡ bytes → is_listed pieces lookup bytes ≡ is_some f
     listed_by key f e q = listed_found ∙ rw (e, q)
 
 -- ---- pieces that are not listed

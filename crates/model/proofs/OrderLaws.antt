@@ -1,4 +1,9 @@
 -- Laws of byte order: from place to place, and that it is an order.
+use Rattle.std.specs.declared.cmp.Ordering.{Ordering}
+use Rattle.std.specs.declared.cmp.Ordering.TheVariants.{Less, Equal, Greater}
+use Rattle.std.proofs.lemmas.Bool.Decides.{nat_tests}
+use Rattle.std.specs.Ordering.{nat_cmp, ordering_then, is_lt}
+use Rattle.std.specs.Cmp.Lexicographic.{slice_cmp}
 use mathlib.Core.Path.{◌≡◌, refl, sym, ap, ap₂, ◌∙◌}
 use mathlib.Core.Bool.{Bool, true, false, ◌&&◌}
 use mathlib.Core.List.{List, [], ◌∷◌}
@@ -13,8 +18,6 @@ use lib.ListN.{length, get_or, drop, drop_of_length-le}
 use lib.Seq.{drop-cons}
 use Rattle.utf8.specs.Lists.{same}
 use Rattle.utf8.proofs.Tests.{either, clash}
-use Rattle.model.specs.declared.Order.{Order}
-use Rattle.model.specs.declared.Order.TheVariants.{Less, Equal, Greater}
 use Rattle.model.specs.ByteOrder.{order_or, byte_order, is_less}
 
 module _ (xs ys : List ℕ) (i : ℕ) where
@@ -55,7 +58,7 @@ by_numbers x y less greater equal =
     ⊎_elim (λ g. greater (ltb-true y x g)) (λ n. equal (omega (arith, ltb-false x y m, ltb-false y x n))) (either (ltb y x)))
     (either (ltb x y))
 
-module _ (x y : ℕ) (o : Order) where
+module _ (x y : ℕ) (o : Ordering) where
   pub or_less : x < y → order_or x y o ≡ Less
   or_less h = rw (lt-ltb x y h)
 
@@ -67,12 +70,12 @@ module _ (x y : ℕ) (o : Order) where
 
 -- ---- two strings are the same where their order is equal
 
-abbrev pub is_equal : Order → Bool
+abbrev pub is_equal : Ordering → Bool
 is_equal Less = false
 is_equal Equal = true
 is_equal Greater = false
 
-pub equal-or : (x y : ℕ) (t : Bool) (o : Order) → t ≡ is_equal o → (eqb x y && t) ≡ is_equal (order_or x y o)
+pub equal-or : (x y : ℕ) (t : Bool) (o : Ordering) → t ≡ is_equal o → (eqb x y && t) ≡ is_equal (order_or x y o)
 equal-or x y t o e =
     by_numbers x y (λ l. rw (or_less x y o l, ne_eqb x y (omega arith))) (λ g. rw (or-greater x y o g, ne_eqb x y (omega arith)))
     (λ q. rw (or_else x y o q, eq-eqb x y q) e)
@@ -83,12 +86,31 @@ same-is-equal [] (y ∷ ys) = refl
 same-is-equal (x ∷ xs) [] = refl
 same-is-equal (x ∷ xs) (y ∷ ys) = equal-or x y (same xs ys) (byte_order xs ys) (same-is-equal xs ys)
 
-pub less_is : (o : Order) → is_less o ≡ true → o ≡ Less
+-- the test that the library has is `is_less`
+pub is_lt-is_less : (o : Ordering) → is_lt o ≡ is_less o
+is_lt-is_less Less = refl
+is_lt-is_less Equal = refl
+is_lt-is_less Greater = refl
+
+-- byte order as the library has it, and as it is defined here
+order_or-then : (x y : ℕ) (o : Ordering) → ordering_then (nat_cmp x y) o ≡ order_or x y o
+order_or-then x y o = grind (arith, nat_tests)
+
+pub pair_by-numbers : (a b l r : ℕ) → ordering_then (nat_cmp a l) (nat_cmp b r) ≡ order_or a l (order_or b r Equal)
+pair_by-numbers a b l r = order_or-then a l (nat_cmp b r) ∙ ap (order_or a l) (grind (arith, nat_tests))
+
+pub slice_cmp-is : (xs ys : List ℕ) → slice_cmp nat_cmp xs ys ≡ byte_order xs ys
+slice_cmp-is [] [] = refl
+slice_cmp-is [] (y ∷ ys) = refl
+slice_cmp-is (x ∷ xs) [] = refl
+slice_cmp-is (x ∷ xs) (y ∷ ys) = ap (ordering_then (nat_cmp x y)) (slice_cmp-is xs ys) ∙ order_or-then x y (byte_order xs ys)
+
+pub less_is : (o : Ordering) → is_less o ≡ true → o ≡ Less
 less_is Less e = refl
 less_is Equal e = clash refl e
 less_is Greater e = clash refl e
 
-pub equal_is : (o : Order) → is_equal o ≡ true → o ≡ Equal
+pub equal_is : (o : Ordering) → is_equal o ≡ true → o ≡ Equal
 equal_is Less e = clash refl e
 equal_is Equal e = refl
 equal_is Greater e = clash refl e
@@ -100,10 +122,10 @@ order_self [] = refl
 order_self (x ∷ xs) = or_else x x (byte_order xs xs) refl ∙ order_self xs
 
 -- No order is less and not less, or equal and not equal.
-pub never {ℓ} : {A : Type ℓ} {o p : Order} → o ≡ p → is_less o ≡ true → is_less p ≡ false → A
+pub never {ℓ} : {A : Type ℓ} {o p : Ordering} → o ≡ p → is_less o ≡ true → is_less p ≡ false → A
 never q l m = clash (ap is_less q ∙ m) l
 
-pub unequal {ℓ} : {A : Type ℓ} {o p : Order} → o ≡ p → is_equal o ≡ false → is_equal p ≡ true → A
+pub unequal {ℓ} : {A : Type ℓ} {o p : Ordering} → o ≡ p → is_equal o ≡ false → is_equal p ≡ true → A
 unequal q l m = clash l (ap is_equal q ∙ m)
 
 pub equal-strings : (xs ys : List ℕ) → byte_order xs ys ≡ Equal → xs ≡ ys
@@ -133,12 +155,12 @@ order_trans (x ∷ xs) (y ∷ ys) (z ∷ zs) p q =
     ∙ order_trans xs ys zs (sym (or_else x y (byte_order xs ys) d) ∙ p) (sym (or_else y z (byte_order ys zs) e) ∙ q)))
 
 -- The order the other way.
-abbrev pub turned : Order → Order
+abbrev pub turned : Ordering → Ordering
 turned Less = Greater
 turned Equal = Equal
 turned Greater = Less
 
-or_turned : (x y : ℕ) (o : Order) → order_or y x (turned o) ≡ turned (order_or x y o)
+or_turned : (x y : ℕ) (o : Ordering) → order_or y x (turned o) ≡ turned (order_or x y o)
 or_turned x y o =
     by_numbers x y (λ l. rw (or_less x y o l) (or-greater y x (turned o) l)) (λ g. rw (or-greater x y o g) (or_less y x (turned o) g))
     (λ q. rw (or_else x y o q) (or_else y x (turned o) (sym q)))

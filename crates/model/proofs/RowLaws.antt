@@ -1,4 +1,6 @@
 -- Laws of the merge rows: from row to row of their columns, and what a search among them gives.
+use Rattle.std.specs.declared.cmp.Ordering.{Ordering}
+use Rattle.std.specs.declared.cmp.Ordering.TheVariants.{Less, Equal}
 use mathlib.Core.Path.{◌≡◌, refl, sym, ap, ◌∙◌}
 use mathlib.Core.Bool.{Bool, true, false, ◌&&◌, ◌||◌}
 use mathlib.Core.List.{List, ◌++◌, map}
@@ -10,8 +12,6 @@ use lib.Dec.{ltb, eqb}
 use lib.ListN.{length, get_or, drop, length-map, get_or-map}
 use Rattle.utf8.specs.Lists.{all, neighbours, zip, same, below}
 use Rattle.utf8.proofs.Places.{length-zip, get_or_zip, get_or_inside, length-count_from, get_or_count_from, all-next, all_broken, all-ended, all_pair_next, all_pair_broken, all_pair_ended, all_pair_holds}
-use Rattle.model.specs.declared.Order.{Order}
-use Rattle.model.specs.declared.Order.TheVariants.{Less, Equal}
 use Rattle.model.specs.Model.{strings, piece, Row, rows_of, row_of}
 use Rattle.model.specs.ByteOrder.{order_or, byte_order, is_less}
 use Rattle.model.specs.inner.Search.{pair_order, row_order, found_row, row_found}
@@ -22,7 +22,7 @@ use Rattle.model.proofs.StringLaws.{length-strings}
 
 -- ---- rows in order
 
-less_or : (x y : ℕ) (t : Bool) (o : Order) → t ≡ is_less o → (ltb x y || eqb x y && t) ≡ is_less (order_or x y o)
+less_or : (x y : ℕ) (t : Bool) (o : Ordering) → t ≡ is_less o → (ltb x y || eqb x y && t) ≡ is_less (order_or x y o)
 less_or x y t o e =
     by_numbers x y (λ l. rw (or_less x y o l, lt-ltb x y l)) (λ g. rw (or-greater x y o g, le-ltb x y (le_of_lt g), ne_eqb x y (omega arith)))
     (λ q. rw (or_else x y o q, le-ltb x y (omega arith), eq-eqb x y q) e)
@@ -48,7 +48,7 @@ module _ (left right : List ℕ) where
 
   module _ (i : ℕ) where
     -- the order of the rows at a place and the next
-    abbrev pub next_order : Order
+    abbrev pub next_order : Ordering
     next_order = pair_order (get_or left i 0, get_or right i 0) (get_or left (i + 1) 0, get_or right (i + 1) 0)
 
     before-next : i + 1 < length left → i + 1 < length right → pair_before (get_or (zip left right) i (0, 0)) (get_or (zip left right) (i + 1) (0, 0)) ≡ is_less next_order

@@ -1,7 +1,10 @@
 -- Answer numbers, and what every call leaves in what it was lent.
-use Rattle.std.specs.Prelude.{ℕ, ◌-◌, Bool, cond, ◌||◌, List, [], ◌∷◌, ◌++◌, eqb, length, replicate}
+use Rattle.std.specs.Prelude.{ℕ, ◌-◌, Bool, cond, ◌||◌, List, [], ◌∷◌, ◌++◌, eqb, length, replicate, Result, Ok, Err, ⊤}
 use Rattle.utf8.specs.Chars.{longest_valid_prefix}
 use Rattle.model.specs.declared.Answer.{Answer}
+use Rattle.model.specs.declared.Counts.{Counts}
+use Rattle.model.specs.declared.Refusal.{Refusal}
+use Rattle.model.specs.declared.Refusal.TheVariants.{WrongSize, OffsetsAstray, BadPiece, BadLookup, BadFallback, BadRow, BadToken, BadStep, BadText, NoRawPath, ScratchTooShort, ResultTooShort}
 
 -- Rule 3.1: of tests in the order of their numbers, the first that applies; 0 if none does.
 abbrev pub lowest : List (ℕ × Bool) → ℕ
@@ -18,6 +21,44 @@ refused number place = record { number = number; place = place; written = 0; dro
 -- Rule 3.7: only a 9 has a place.
 unfoldable pub place_of : ℕ → List ℕ → ℕ
 place_of number text = cond (eqb number 9) (length (longest_valid_prefix text)) 0
+
+-- The number of a refusal, and its place.
+abbrev pub number_of : Refusal → ℕ
+number_of WrongSize = 1
+number_of OffsetsAstray = 2
+number_of BadPiece = 3
+number_of BadLookup = 4
+number_of BadFallback = 5
+number_of BadRow = 6
+number_of BadToken = 7
+number_of BadStep = 8
+number_of (BadText place) = 9
+number_of NoRawPath = 10
+number_of ScratchTooShort = 11
+number_of ResultTooShort = 12
+
+abbrev pub place_named : Refusal → ℕ
+place_named (BadText place) = place
+place_named WrongSize = 0
+place_named OffsetsAstray = 0
+place_named BadPiece = 0
+place_named BadLookup = 0
+place_named BadFallback = 0
+place_named BadRow = 0
+place_named BadToken = 0
+place_named BadStep = 0
+place_named NoRawPath = 0
+place_named ScratchTooShort = 0
+place_named ResultTooShort = 0
+
+-- The answer of a call that gives counts or a refusal, and of one that only checks.
+abbrev pub answer_of : Result Counts Refusal → Answer
+answer_of (Ok counts) = done counts.written counts.drops counts.skips
+answer_of (Err refusal) = refused (number_of refusal) (place_named refusal)
+
+abbrev pub checked : Result ⊤ Refusal → Answer
+checked (Ok done_) = done 0 0 0
+checked (Err refusal) = refused (number_of refusal) (place_named refusal)
 
 abbrev pub zeros : ℕ → List ℕ
 zeros n = replicate n 0

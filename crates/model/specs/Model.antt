@@ -1,9 +1,11 @@
 -- The model as flat tables, and what stands in them: pieces, the lookup of a piece, fallback ids, merge rows, tokens, steps.
 -- A definition takes the tables that it needs and no more; those of a whole model are named at the end.
-use Rattle.std.specs.Prelude.{ℕ, ◌+◌, Bool, false, cond, ◌&&◌, List, [], ◌∷◌, map, eqb, length, get_or, take}
-use Rattle.std.proofs.Math.Option.{Option, none, some}
+use Rattle.std.specs.Prelude.{ℕ, ◌+◌, Bool, false, cond, ◌&&◌, List, [], ◌∷◌, map, eqb, length, get_or, take, Option, None, Some}
 use Rattle.std.proofs.Math.Seq.{slice}
 use Rattle.utf8.specs.Lists.{find, same, between, below}
+use Rattle.model.specs.declared.Strings.{Strings}
+use Rattle.model.specs.declared.AddedTokens.{AddedTokens}
+use Rattle.model.specs.declared.Model.{Model as Tables}
 use Rattle.model.specs.declared.Span.{Span}
 use Rattle.model.specs.declared.Step.{Step}
 use Rattle.model.specs.declared.Step.TheVariants.{Prepend, Replace, CollapseSpaces, Strip}
@@ -12,6 +14,10 @@ use Rattle.model.specs.declared.Metaspace.{Metaspace}
 -- Rule 2.2: string i of a table goes from offset i up to offset i + 1. Where the offsets fall nothing lies between them.
 unfoldable pub strings : List ℕ → List ℕ → List (List ℕ)
 strings bytes offsets = between offsets bytes
+
+-- The strings of a lent table.
+abbrev pub strings_of : Strings → List (List ℕ)
+strings_of s = strings s.bytes.now s.offsets.now
 
 -- The piece of an id; an id not below the piece count has none, which reads as the empty one.
 unfoldable pub piece : List (List ℕ) → ℕ → List ℕ
@@ -27,7 +33,7 @@ no_id = 4294967295
 
 -- The fallback id of a byte, where it has one.
 unfoldable pub fallback_id : List ℕ → ℕ → Option ℕ
-fallback_id fallback byte = let id = get_or fallback byte no_id in cond (eqb id no_id) none (some id)
+fallback_id fallback byte = let id = get_or fallback byte no_id in cond (eqb id no_id) None (Some id)
 
 -- A merge row (rule 2.6).
 pub record Row : Type 0 where
@@ -55,6 +61,10 @@ pub record TokenList : Type 0 where
 
 abbrev pub token_list : List ℕ → List ℕ → List ℕ → List Bool → List Bool → TokenList
 token_list bytes offsets ids lstrip rstrip = record { bytes = bytes; offsets = offsets; ids = ids; lstrip = lstrip; rstrip = rstrip }
+
+-- Those of a lent list.
+abbrev pub tokens_of : AddedTokens → TokenList
+tokens_of t = token_list t.contents.bytes.now t.contents.offsets.now t.ids.now t.lstrip.now t.rstrip.now
 
 -- What the tokens of a list are found by, in the order of its rows.
 unfoldable pub contents : TokenList → List (List ℕ)
@@ -97,10 +107,10 @@ pub record Model : Type 0 where
   pub step_bytes : List ℕ
   pub steps : List Step
   pub step_count : ℕ
-  pub metaspace : Metaspace
+  pub metaspace : Option Metaspace
 
 -- The model of lent columns, in the order in which every call takes them.
-abbrev pub model_of : List ℕ → List ℕ → List ℕ → List ℕ → List ℕ → List ℕ → List ℕ → List ℕ → TokenList → TokenList → List ℕ → List Step → ℕ → Metaspace → Model
+abbrev pub model_of : List ℕ → List ℕ → List ℕ → List ℕ → List ℕ → List ℕ → List ℕ → List ℕ → TokenList → TokenList → List ℕ → List Step → ℕ → Option Metaspace → Model
 model_of piece_bytes piece_offsets lookup fallback left right result rank first second step_bytes steps step_count metaspace =
     record {
       piece_bytes = piece_bytes;
@@ -118,6 +128,13 @@ model_of piece_bytes piece_offsets lookup fallback left right result rank first 
       step_count = step_count;
       metaspace = metaspace;
     }
+
+-- The model of tables that are lent as one value.
+abbrev pub columns : Tables → Model
+columns m =
+    model_of m.pieces.bytes.now m.pieces.offsets.now m.lookup.now m.fallback.now m.rows.left.now m.rows.right.now m.rows.result.now m.rows.rank.now
+    (tokens_of m.first) (tokens_of m.second)
+    m.steps.bytes.now m.steps.list m.steps.count m.metaspace
 
 unfoldable pub pieces_of : Model → List (List ℕ)
 pieces_of m = strings m.piece_bytes m.piece_offsets

@@ -1,23 +1,11 @@
 // Buffers cleared from a place to their end.
-ghost use Rattle.std.specs.Prelude.{◌≡◌, ◌++◌, ◌-◌, length, take};
-ghost use Rattle.model.specs.Answers.{zeros};
+ghost use Rattle.std.specs.Prelude.{◌≡◌, ◌++◌, ◌-◌, length, take, replicate};
 
-pub fn clear_bytes(out: &mut [u8], start: usize)
-    ensures { out.new ≡ take start out.old ++ zeros (length out.old - start) }
+// Puts `blank` into each cell from `start` on.
+pub fn clear<T: Copy>(out: &mut [T], start: usize, blank: T)
+    ensures { out.new ≡ take start out.old ++ replicate (length out.old - start) blank }
 {
-    let mut i = start;
-    while i < out.len() {
-        out[i] = 0;
-        i += 1;
-    }
-}
-
-pub fn clear_words(out: &mut [u32], start: usize)
-    ensures { out.new ≡ take start out.old ++ zeros (length out.old - start) }
-{
-    let mut i = start;
-    while i < out.len() {
-        out[i] = 0;
-        i += 1;
+    for i in start..out.len() {
+        out[i] = blank;
     }
 }

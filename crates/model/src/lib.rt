@@ -4,8 +4,8 @@
 #![tactic(auto)]
 
 ghost use Rattle.std.specs.Prelude.{◌≡◌};
-ghost use Rattle.model.specs.Model.{model_of, token_list};
-ghost use Rattle.model.specs.Answers.{done, refused};
+ghost use Rattle.model.specs.Model.{columns};
+ghost use Rattle.model.specs.Answers.{done, refused, number_of, place_named, answer_of, checked};
 ghost use Rattle.model.specs.Check.{check_outcome};
 
 use fallback::bad_fallback;
@@ -13,7 +13,7 @@ use lookup::bad_lookup;
 use offsets::offsets_astray;
 use rows::bad_row;
 use sizes::wrong_sizes;
-use steps::steps_fail;
+use steps::{StepTest, steps_fail};
 use texts::{bad_piece, bad_token};
 
 pub mod clear;
@@ -28,6 +28,52 @@ mod sizes;
 mod steps;
 pub mod tables;
 mod texts;
+
+// Strings that lie end to end in a row of bytes: string i goes from offset i up to offset i + 1.
+#[derive(Clone, Copy)]
+pub struct Strings<'a> {
+    pub bytes: &'a [u8],
+    pub offsets: &'a [u32],
+}
+
+// The merge rows, a column each.
+#[derive(Clone, Copy)]
+pub struct MergeRows<'a> {
+    pub left: &'a [u32],
+    pub right: &'a [u32],
+    pub result: &'a [u32],
+    pub rank: &'a [u32],
+}
+
+// A list of added tokens, a column each.
+#[derive(Clone, Copy)]
+pub struct AddedTokens<'a> {
+    pub contents: Strings<'a>,
+    pub ids: &'a [u32],
+    pub lstrip: &'a [bool],
+    pub rstrip: &'a [bool],
+}
+
+// The steps of the normalization: of the 16 the first `count`. Their strings lie in `bytes`.
+#[derive(Clone, Copy)]
+pub struct StepList<'a> {
+    pub bytes: &'a [u8],
+    pub list: [Step; 16],
+    pub count: usize,
+}
+
+// The tables of a model, lent.
+#[derive(Clone, Copy)]
+pub struct Model<'a> {
+    pub pieces: Strings<'a>,
+    pub lookup: &'a [u32],
+    pub fallback: &'a [u32],
+    pub rows: MergeRows<'a>,
+    pub first: AddedTokens<'a>,
+    pub second: AddedTokens<'a>,
+    pub steps: StepList<'a>,
+    pub metaspace: Option<Metaspace>,
+}
 
 // A string of the step bytes: `len` bytes from `place` on.
 #[derive(Clone, Copy)]
@@ -59,9 +105,9 @@ pub enum PrependScheme {
 }
 
 #[derive(Clone, Copy)]
-pub enum Metaspace {
-    Absent,
-    Present { prepend: PrependScheme, split: bool },
+pub struct Metaspace {
+    pub prepend: PrependScheme,
+    pub split: bool,
 }
 
 // What every call answers: the number (rule 3.1), the place that a 9 names, and the three counts.
@@ -75,49 +121,89 @@ pub struct Answer {
     pub skips: usize,
 }
 
-// How one entry stands to another.
-#[derive(Clone, Copy)]
-pub enum Order {
-    Less,
-    Equal,
-    Greater,
-}
-
-// What a search in a table gives.
-#[derive(Clone, Copy)]
-pub enum Found {
-    // The place of the entry.
-    At(usize),
-    Nothing,
-}
-
 // The longest text that a call takes, in bytes or ids.
 pub const TEXT_LIMIT: usize = 1048576;
 
-// The answer numbers (rule 3.1).
-pub const WRONG_SIZE: u32 = 1;
+// Why a call refuses (rule 3.1).
+#[derive(Clone, Copy, PartialEq, Eq, Debug)]
+pub enum Refusal {
+    WrongSize,
+    OffsetsAstray,
+    BadPiece,
+    BadLookup,
+    BadFallback,
+    BadRow,
+    BadToken,
+    BadStep,
+    // The text is valid UTF-8 up to `place`.
+    BadText { place: usize },
+    NoRawPath,
+    ScratchTooShort,
+    ResultTooShort,
+}
 
-pub const OFFSETS_ASTRAY: u32 = 2;
+impl Refusal {
+    // The answer number.
+    pub fn number(self) -> u32
+        ensures { result ≡ number_of self }
+    {
+        match self {
+            Refusal::WrongSize => 1,
+            Refusal::OffsetsAstray => 2,
+            Refusal::BadPiece => 3,
+            Refusal::BadLookup => 4,
+            Refusal::BadFallback => 5,
+            Refusal::BadRow => 6,
+            Refusal::BadToken => 7,
+            Refusal::BadStep => 8,
+            Refusal::BadText { .. } => 9,
+            Refusal::NoRawPath => 10,
+            Refusal::ScratchTooShort => 11,
+            Refusal::ResultTooShort => 12,
+        }
+    }
+}
 
-pub const BAD_PIECE: u32 = 3;
+// What a call that is accepted counts.
+#[derive(Clone, Copy, PartialEq, Eq, Debug)]
+pub struct Counts {
+    pub written: usize,
+    pub drops: usize,
+    pub skips: usize,
+}
 
-pub const BAD_LOOKUP: u32 = 4;
+impl From<Refusal> for Answer {
+    fn from(refusal: Refusal) -> Self
+        ensures { result ≡ refused (number_of refusal) (place_named refusal) }
+    {
+        match refusal {
+            Refusal::BadText { place } => Answer::refused(refusal.number(), place),
+            _ => Answer::refused(refusal.number(), 0),
+        }
+    }
+}
 
-pub const BAD_FALLBACK: u32 = 5;
+impl From<Result<Counts, Refusal>> for Answer {
+    fn from(outcome: Result<Counts, Refusal>) -> Self
+        ensures { result ≡ answer_of outcome }
+    {
+        match outcome {
+            Ok(counts) => Answer::done(counts.written, counts.drops, counts.skips),
+            Err(refusal) => Answer::from(refusal),
+        }
+    }
+}
 
-pub const BAD_ROW: u32 = 6;
-
-pub const BAD_TOKEN: u32 = 7;
-
-pub const BAD_STEP: u32 = 8;
-
-pub const BAD_TEXT: u32 = 9;
-
-pub const NO_RAW_PATH: u32 = 10;
-
-pub const SCRATCH_TOO_SHORT: u32 = 11;
-
-pub const RESULT_TOO_SHORT: u32 = 12;
+impl From<Result<(), Refusal>> for Answer {
+    fn from(outcome: Result<(), Refusal>) -> Self
+        ensures { result ≡ checked outcome }
+    {
+        match outcome {
+            Ok(_) => Answer::done(0, 0, 0),
+            Err(refusal) => Answer::from(refusal),
+        }
+    }
+}
 
 impl Answer {
     pub fn done(written: usize, drops: usize, skips: usize) -> Self
@@ -145,88 +231,33 @@ impl Answer {
     }
 }
 
-// The model check: the lowest of the answers 1 to 8 that applies to the tables, or 0.
-pub fn check(
-    piece_bytes: &[u8],
-    piece_offsets: &[u32],
-    lookup: &[u32],
-    fallback: &[u32],
-    left: &[u32],
-    right: &[u32],
-    res: &[u32],
-    rank: &[u32],
-    first_bytes: &[u8],
-    first_offsets: &[u32],
-    first_ids: &[u32],
-    first_lstrip: &[bool],
-    first_rstrip: &[bool],
-    second_bytes: &[u8],
-    second_offsets: &[u32],
-    second_ids: &[u32],
-    second_lstrip: &[bool],
-    second_rstrip: &[bool],
-    step_bytes: &[u8],
-    steps: [Step; 16],
-    step_count: usize,
-    metaspace: Metaspace,
-) -> Answer
-    ensures { result ≡ check_outcome (model_of piece_bytes.now piece_offsets.now lookup.now fallback.now left.now right.now res.now rank.now (token_list first_bytes.now first_offsets.now first_ids.now first_lstrip.now first_rstrip.now) (token_list second_bytes.now second_offsets.now second_ids.now second_lstrip.now second_rstrip.now) step_bytes.now steps step_count metaspace) }
+// The model check: the lowest of the answers 1 to 8 that applies to the tables.
+pub fn check(model: &Model<'_>) -> Result<(), Refusal>
+    ensures { checked result ≡ check_outcome (columns model.now) }
 {
-    if wrong_sizes(
-        piece_bytes,
-        piece_offsets,
-        fallback,
-        left,
-        right,
-        res,
-        rank,
-        first_offsets,
-        first_ids,
-        first_lstrip,
-        first_rstrip,
-        second_offsets,
-        second_ids,
-        second_lstrip,
-        second_rstrip,
-        step_bytes,
-        steps,
-        step_count,
-    ) {
-        return Answer::refused(WRONG_SIZE, 0);
+    if wrong_sizes(model) {
+        return Err(Refusal::WrongSize);
     }
-    if offsets_astray(
-        piece_bytes,
-        piece_offsets,
-        first_bytes,
-        first_offsets,
-        second_bytes,
-        second_offsets,
-        step_bytes,
-        steps,
-        step_count,
-    ) {
-        return Answer::refused(OFFSETS_ASTRAY, 0);
+    if offsets_astray(model) {
+        return Err(Refusal::OffsetsAstray);
     }
-    if bad_piece(piece_bytes, piece_offsets) {
-        return Answer::refused(BAD_PIECE, 0);
+    if bad_piece(&model.pieces) {
+        return Err(Refusal::BadPiece);
     }
-    if bad_lookup(piece_bytes, piece_offsets, lookup) {
-        return Answer::refused(BAD_LOOKUP, 0);
+    if bad_lookup(&model.pieces, model.lookup) {
+        return Err(Refusal::BadLookup);
     }
-    if bad_fallback(piece_bytes, piece_offsets, fallback) {
-        return Answer::refused(BAD_FALLBACK, 0);
+    if bad_fallback(&model.pieces, model.fallback) {
+        return Err(Refusal::BadFallback);
     }
-    if bad_row(piece_bytes, piece_offsets, left, right, res) {
-        return Answer::refused(BAD_ROW, 0);
+    if bad_row(&model.pieces, &model.rows) {
+        return Err(Refusal::BadRow);
     }
-    if bad_token(first_bytes, first_offsets) {
-        return Answer::refused(BAD_TOKEN, 0);
+    if bad_token(&model.first.contents) || bad_token(&model.second.contents) {
+        return Err(Refusal::BadToken);
     }
-    if bad_token(second_bytes, second_offsets) {
-        return Answer::refused(BAD_TOKEN, 0);
+    if steps_fail(StepTest::Text, &model.steps) {
+        return Err(Refusal::BadStep);
     }
-    if steps_fail(BAD_STEP, step_bytes, steps, step_count) {
-        return Answer::refused(BAD_STEP, 0);
-    }
-    Answer::done(0, 0, 0)
+    Ok(())
 }

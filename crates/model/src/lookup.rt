@@ -1,174 +1,113 @@
 // Answer 4: the lookup list.
 ghost use Rattle.std.specs.Prelude.{◌≡◌, true, false, not, ◌&&◌, ℕ};
 ghost use Rattle.utf8.specs.Lists.{any, count, is_empty};
-ghost use Rattle.model.specs.Model.{strings, piece};
+ghost use Rattle.model.specs.Model.{strings_of, piece};
 ghost use Rattle.model.specs.ByteOrder.{is_before};
 ghost use Rattle.model.specs.Check.{names_no_piece, lookup_ascends, is_listed, piece_missing, bad_lookup};
 ghost use Rattle.model.specs.inner.Tests.{is_long, long_missing};
 
-use crate::Found;
-use crate::compare::{byte_order, is_less};
+use crate::Strings;
+use crate::compare::byte_order;
 use crate::search::find_piece;
-use crate::tables::{string_at, string_count, wide};
 
 // Whether the piece of `id` is empty, as is that of an id which has none.
-fn piece_empty(piece_bytes: &[u8], piece_offsets: &[u32], id: usize) -> bool
-    ensures { result ≡ is_empty (piece (strings piece_bytes.now piece_offsets.now) id) }
+fn piece_empty(pieces: &Strings<'_>, id: usize) -> bool
+    ensures { result ≡ is_empty (piece (strings_of pieces.now) id) }
 {
-    let bytes = string_at(piece_bytes, piece_offsets, id);
-    bytes.len() == 0
+    pieces.get(id).is_empty()
 }
 
 // Whether an entry is no id, or the id of an empty piece.
-fn names_no_piece(piece_bytes: &[u8], piece_offsets: &[u32], lookup: &[u32]) -> bool
-    ensures { result ≡ any (names_no_piece (strings piece_bytes.now piece_offsets.now)) lookup.now }
+fn names_no_piece(pieces: &Strings<'_>, lookup: &[u32]) -> bool
+    ensures { result ≡ any (names_no_piece (strings_of pieces.now)) lookup.now }
 {
-    let mut i = 0;
-    while i < lookup.len() {
-        if piece_empty(piece_bytes, piece_offsets, wide(lookup[i])) {
-            return true;
-        }
-        i += 1;
-    }
-    false
+    lookup.iter().any(|id| piece_empty(pieces, *id as usize))
 }
 
 // Whether the piece of `a` stands before that of `b`.
-fn piece_before(piece_bytes: &[u8], piece_offsets: &[u32], a: u32, b: u32) -> bool
-    ensures { let pieces = strings piece_bytes.now piece_offsets.now in result ≡ is_before (piece pieces a) (piece pieces b) }
+fn piece_before(pieces: &Strings<'_>, a: u32, b: u32) -> bool
+    ensures { let all = strings_of pieces.now in result ≡ is_before (piece all a) (piece all b) }
 {
-    let first = string_at(piece_bytes, piece_offsets, wide(a));
-    let second = string_at(piece_bytes, piece_offsets, wide(b));
-    is_less(byte_order(first, second))
+    byte_order(pieces.get(a as usize), pieces.get(b as usize)).is_lt()
 }
 
 // Whether the piece of each entry stands before that of the next.
-fn lookup_ascends(piece_bytes: &[u8], piece_offsets: &[u32], lookup: &[u32]) -> bool
-    ensures { result ≡ lookup_ascends (strings piece_bytes.now piece_offsets.now) lookup.now }
+fn lookup_ascends(pieces: &Strings<'_>, lookup: &[u32]) -> bool
+    ensures { result ≡ lookup_ascends (strings_of pieces.now) lookup.now }
 {
-    let mut i = 0;
-    while i + 1 < lookup.len() {
-        let next = i + 1;
-        if !piece_before(piece_bytes, piece_offsets, lookup[i], lookup[next]) {
-            return false;
-        }
-        i = next;
-    }
-    true
-}
-
-// Whether a piece need not be looked for: it has two bytes or more, and all such pieces are listed.
-fn is_spared(long_listed: bool, piece: &[u8]) -> bool
-    ensures { result ≡ (long_listed && is_long piece.now) }
-{
-    if long_listed {
-        return 1 < piece.len();
-    }
-    false
+    lookup
+        .iter()
+        .zip(lookup.iter().skip(1))
+        .all(|(id, next)| piece_before(pieces, *id, *next))
 }
 
 // Whether the piece of `id` is not empty and not in the lookup list. `long_listed` may say that all pieces of two bytes or more are.
-fn unlisted(
-    piece_bytes: &[u8],
-    piece_offsets: &[u32],
-    lookup: &[u32],
-    long_listed: bool,
-    id: usize,
-) -> bool
-    requires ascending { lookup_ascends (strings piece_bytes.now piece_offsets.now) lookup.now ≡ true }
-    requires long_listed { (long_listed && long_missing (strings piece_bytes.now piece_offsets.now) lookup.now) ≡ false }
-    ensures { let pieces = strings piece_bytes.now piece_offsets.now in result ≡ (not (is_empty (piece pieces id)) && not (is_listed pieces lookup.now (piece pieces id))) }
+fn unlisted(pieces: &Strings<'_>, lookup: &[u32], long_listed: bool, id: usize) -> bool
+    requires ascending { lookup_ascends (strings_of pieces.now) lookup.now ≡ true }
+    requires long_listed { (long_listed && long_missing (strings_of pieces.now) lookup.now) ≡ false }
+    ensures { let all = strings_of pieces.now in result ≡ (not (is_empty (piece all id)) && not (is_listed all lookup.now (piece all id))) }
 {
-    if piece_empty(piece_bytes, piece_offsets, id) {
+    let key = pieces.get(id);
+    if key.is_empty() {
         return false;
     }
-    let key = string_at(piece_bytes, piece_offsets, id);
-    if is_spared(long_listed, key) {
+    if long_listed && 1 < key.len() {
         return false;
     }
-    match find_piece(piece_bytes, piece_offsets, lookup, key) {
-        Found::At(_) => false,
-        Found::Nothing => true,
-    }
+    find_piece(pieces, lookup, key).is_none()
 }
 
 // Whether a piece that is not empty is missing from a lookup list that ascends. `long_listed` is as above.
-fn piece_missing(
-    piece_bytes: &[u8],
-    piece_offsets: &[u32],
-    lookup: &[u32],
-    long_listed: bool,
-) -> bool
-    requires ascending { lookup_ascends (strings piece_bytes.now piece_offsets.now) lookup.now ≡ true }
-    requires long_listed { (long_listed && long_missing (strings piece_bytes.now piece_offsets.now) lookup.now) ≡ false }
-    ensures { result ≡ piece_missing (strings piece_bytes.now piece_offsets.now) lookup.now }
+fn piece_missing(pieces: &Strings<'_>, lookup: &[u32], long_listed: bool) -> bool
+    requires ascending { lookup_ascends (strings_of pieces.now) lookup.now ≡ true }
+    requires long_listed { (long_listed && long_missing (strings_of pieces.now) lookup.now) ≡ false }
+    ensures { result ≡ piece_missing (strings_of pieces.now) lookup.now }
 {
-    let count = string_count(piece_offsets);
-    let mut id = 0;
-    while id < count {
-        if unlisted(piece_bytes, piece_offsets, lookup, long_listed, id) {
+    for id in 0..pieces.len() {
+        if unlisted(pieces, lookup, long_listed, id) {
             return true;
         }
-        id += 1;
     }
     false
 }
 
 // Whether the piece of `id` has two bytes or more.
-fn piece_long(piece_bytes: &[u8], piece_offsets: &[u32], id: usize) -> bool
-    ensures { result ≡ is_long (piece (strings piece_bytes.now piece_offsets.now) id) }
+fn piece_long(pieces: &Strings<'_>, id: usize) -> bool
+    ensures { result ≡ is_long (piece (strings_of pieces.now) id) }
 {
-    let bytes = string_at(piece_bytes, piece_offsets, id);
-    1 < bytes.len()
+    1 < pieces.get(id).len()
 }
 
 // How many pieces have two bytes or more.
-fn long_pieces(piece_bytes: &[u8], piece_offsets: &[u32]) -> usize
-    ensures { result ≡ count is_long (strings piece_bytes.now piece_offsets.now) }
+fn long_pieces(pieces: &Strings<'_>) -> usize
+    ensures { result ≡ count is_long (strings_of pieces.now) }
 {
-    let pieces = string_count(piece_offsets);
-    let mut id = 0;
-    let mut n = 0;
-    while id < pieces {
-        if piece_long(piece_bytes, piece_offsets, id) {
-            n += 1;
-            id += 1;
-        } else {
-            id += 1;
-        }
-    }
-    n
+    (0..pieces.len())
+        .filter(|id| piece_long(pieces, *id))
+        .count()
 }
 
 // How many entries name a piece of two bytes or more.
-fn long_entries(piece_bytes: &[u8], piece_offsets: &[u32], lookup: &[u32]) -> usize
-    ensures { let pieces = strings piece_bytes.now piece_offsets.now in result ≡ count (λ (id : ℕ). is_long (piece pieces id)) lookup.now }
+fn long_entries(pieces: &Strings<'_>, lookup: &[u32]) -> usize
+    ensures { let all = strings_of pieces.now in result ≡ count (λ (id : ℕ). is_long (piece all id)) lookup.now }
 {
-    let mut i = 0;
-    let mut n = 0;
-    while i < lookup.len() {
-        if piece_long(piece_bytes, piece_offsets, wide(lookup[i])) {
-            n += 1;
-            i += 1;
-        } else {
-            i += 1;
-        }
-    }
-    n
+    lookup
+        .iter()
+        .filter(|id| piece_long(pieces, **id as usize))
+        .count()
 }
 
 // Whether the lookup list breaks its rule.
-pub fn bad_lookup(piece_bytes: &[u8], piece_offsets: &[u32], lookup: &[u32]) -> bool
-    ensures { result ≡ bad_lookup (strings piece_bytes.now piece_offsets.now) lookup.now }
+pub fn bad_lookup(pieces: &Strings<'_>, lookup: &[u32]) -> bool
+    ensures { result ≡ bad_lookup (strings_of pieces.now) lookup.now }
 {
-    if names_no_piece(piece_bytes, piece_offsets, lookup) {
+    if names_no_piece(pieces, lookup) {
         return true;
     }
-    if !lookup_ascends(piece_bytes, piece_offsets, lookup) {
+    if !lookup_ascends(pieces, lookup) {
         return true;
     }
     // Entries that ascend differ: where there are as many long ones as long pieces, they leave none out.
-    let pieces = long_pieces(piece_bytes, piece_offsets);
-    let entries = long_entries(piece_bytes, piece_offsets, lookup);
-    piece_missing(piece_bytes, piece_offsets, lookup, pieces == entries)
+    let long_listed = long_pieces(pieces) == long_entries(pieces, lookup);
+    piece_missing(pieces, lookup, long_listed)
 }

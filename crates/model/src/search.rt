@@ -1,76 +1,64 @@
 // Searches by halves in the sorted tables.
-ghost use Rattle.std.specs.Prelude.{◌≡◌, min, length};
-ghost use Rattle.model.specs.Model.{strings};
+ghost use Rattle.std.specs.Prelude.{◌≡◌, ◌<◌, ℕ, min, length};
+ghost use Rattle.std.specs.declared.cmp.Ordering.{Ordering};
+ghost use Rattle.model.specs.Model.{strings_of};
 ghost use Rattle.model.specs.inner.Search.{searched, piece_order, found_piece, row_order};
 
 use crate::compare::{byte_order, pair_order};
-use crate::tables::{lesser, number_at, string_at, wide};
-use crate::{Found, Order};
+use crate::tables::number_at;
+use crate::{MergeRows, Strings};
+use std::cmp::Ordering;
+
+// The place from `from` on and before `to` at which a search by halves ends; `order` tells how the entry at a place stands to what is
+// sought.
+fn search_by<F: Fn(usize) -> Ordering>(order: F, from: usize, to: usize) -> Option<usize>
+    requires { (i : ℕ) → i < to → F.pre order i }
+    ensures { (told : ℕ → Ordering) → ((i : ℕ) (o : Ordering) → i < to → F.post order i o → o ≡ told i) → result ≡ searched told from to }
+{
+    let mut lo = from;
+    let mut hi = to;
+    while lo < hi {
+        let middle = lo + (hi - lo) / 2;
+        match order(middle) {
+            Ordering::Less => lo = middle + 1,
+            Ordering::Equal => return Some(middle),
+            Ordering::Greater => hi = middle,
+        }
+    }
+    None
+}
 
 // The place in the lookup list, from `from` on and before `to`, of an id whose piece is `key`.
 pub fn find_piece_between(
-    piece_bytes: &[u8],
-    piece_offsets: &[u32],
+    pieces: &Strings<'_>,
     lookup: &[u32],
     key: &[u8],
     from: usize,
     to: usize,
-) -> Found
-    ensures { result ≡ searched (piece_order (strings piece_bytes.now piece_offsets.now) lookup.now key.now) from (min to (length lookup.now)) }
+) -> Option<usize>
+    ensures { result ≡ searched (piece_order (strings_of pieces.now) lookup.now key.now) from (min to (length lookup.now)) }
 {
-    let mut lo = from;
-    let mut hi = lesser(to, lookup.len());
-    while lo < hi {
-        let middle = (lo + hi) / 2;
-        let entry = string_at(piece_bytes, piece_offsets, wide(lookup[middle]));
-        match byte_order(entry, key) {
-            Order::Less => {
-                lo = middle + 1;
-            }
-            Order::Equal => {
-                return Found::At(middle);
-            }
-            Order::Greater => {
-                hi = middle;
-            }
-        }
-    }
-    Found::Nothing
+    let order = |place: usize| byte_order(pieces.get(lookup[place] as usize), key);
+    search_by(order, from, to.min(lookup.len()))
 }
 
 // The place in the lookup list of an id whose piece is `key`.
-pub fn find_piece(piece_bytes: &[u8], piece_offsets: &[u32], lookup: &[u32], key: &[u8]) -> Found
-    ensures { result ≡ found_piece (strings piece_bytes.now piece_offsets.now) lookup.now key.now }
+pub fn find_piece(pieces: &Strings<'_>, lookup: &[u32], key: &[u8]) -> Option<usize>
+    ensures { result ≡ found_piece (strings_of pieces.now) lookup.now key.now }
 {
-    find_piece_between(piece_bytes, piece_offsets, lookup, key, 0, lookup.len())
+    find_piece_between(pieces, lookup, key, 0, lookup.len())
 }
 
 // The place of the merge row of the pair `l`, `r`, from `from` on and before `to`.
 pub fn find_row_between(
-    left: &[u32],
-    right: &[u32],
+    rows: &MergeRows<'_>,
     l: u32,
     r: u32,
     from: usize,
     to: usize,
-) -> Found
-    ensures { result ≡ searched (row_order left.now right.now l r) from (min to (length left.now)) }
+) -> Option<usize>
+    ensures { result ≡ searched (row_order rows.now.left.now rows.now.right.now l r) from (min to (length rows.now.left.now)) }
 {
-    let mut lo = from;
-    let mut hi = lesser(to, left.len());
-    while lo < hi {
-        let middle = (lo + hi) / 2;
-        match pair_order(left[middle], number_at(right, middle), l, r) {
-            Order::Less => {
-                lo = middle + 1;
-            }
-            Order::Equal => {
-                return Found::At(middle);
-            }
-            Order::Greater => {
-                hi = middle;
-            }
-        }
-    }
-    Found::Nothing
+    let order = |place: usize| pair_order(rows.left[place], number_at(rows.right, place), l, r);
+    search_by(order, from, to.min(rows.left.len()))
 }

@@ -1,10 +1,10 @@
 // Answer 1: sizes, and columns that differ in length.
-ghost use Rattle.std.specs.Prelude.{◌≡◌, not, ◌||◌, eqb, length, take};
-ghost use Rattle.model.specs.Check.{string_too_long, wrong_piece_sizes, wrong_row_sizes, wrong_token_sizes, wrong_step_sizes};
+ghost use Rattle.std.specs.Prelude.{◌≡◌, take};
+ghost use Rattle.model.specs.Model.{columns};
+ghost use Rattle.model.specs.Check.{string_too_long, wrong_piece_sizes, wrong_row_sizes, wrong_token_sizes, wrong_step_sizes, wrong_sizes};
 
-use crate::steps::steps_fail;
-use crate::tables::wide;
-use crate::{Step, WRONG_SIZE};
+use crate::steps::{StepTest, steps_fail};
+use crate::{AddedTokens, MergeRows, Model, StepList, Strings};
 
 // The most that a model may have (rule 2.3).
 const PIECE_LIMIT: usize = 524288;
@@ -27,114 +27,55 @@ const FALLBACK_COUNT: usize = 256;
 fn string_too_long(offsets: &[u32]) -> bool
     ensures { result ≡ string_too_long offsets.now }
 {
-    let mut i = 0;
-    while i + 1 < offsets.len() {
-        if wide(offsets[i]) + STRING_LIMIT < wide(offsets[i + 1]) {
-            return true;
-        }
-        i += 1;
-    }
-    false
+    offsets.iter().zip(offsets.iter().skip(1)).any(|(offset, next)| *offset as usize + STRING_LIMIT
+        < *next as usize)
 }
 
-fn wrong_piece_sizes(bytes: &[u8], offsets: &[u32]) -> bool
-    ensures { result ≡ wrong_piece_sizes bytes.now offsets.now }
+fn wrong_piece_sizes(pieces: &Strings<'_>) -> bool
+    ensures { result ≡ wrong_piece_sizes pieces.now.bytes.now pieces.now.offsets.now }
 {
-    if offsets.len() == 0 {
-        return true;
-    }
-    if PIECE_LIMIT < offsets.len() - 1 {
-        return true;
-    }
-    if PIECE_BYTE_LIMIT < bytes.len() {
-        return true;
-    }
-    string_too_long(offsets)
+    pieces.offsets.is_empty()
+        || PIECE_LIMIT < pieces.len()
+        || PIECE_BYTE_LIMIT < pieces.bytes.len()
+        || string_too_long(pieces.offsets)
 }
 
-fn wrong_row_sizes(left: &[u32], right: &[u32], res: &[u32], rank: &[u32]) -> bool
-    ensures { result ≡ wrong_row_sizes left.now right.now res.now rank.now }
+fn wrong_row_sizes(rows: &MergeRows<'_>) -> bool
+    ensures { result ≡ wrong_row_sizes rows.now.left.now rows.now.right.now rows.now.result.now rows.now.rank.now }
 {
-    if ROW_LIMIT < left.len() {
-        return true;
-    }
-    if left.len() != right.len() {
-        return true;
-    }
-    if left.len() != res.len() {
-        return true;
-    }
-    left.len() != rank.len()
+    let count = rows.left.len();
+    ROW_LIMIT < count
+        || count != rows.right.len()
+        || count != rows.result.len()
+        || count != rows.rank.len()
 }
 
-fn wrong_token_sizes(offsets: &[u32], ids: &[u32], lstrip: &[bool], rstrip: &[bool]) -> bool
-    ensures { result ≡ wrong_token_sizes offsets.now ids.now lstrip.now rstrip.now }
+fn wrong_token_sizes(tokens: &AddedTokens<'_>) -> bool
+    ensures { result ≡ wrong_token_sizes tokens.now.contents.offsets.now tokens.now.ids.now tokens.now.lstrip.now tokens.now.rstrip.now }
 {
-    if offsets.len() == 0 {
-        return true;
-    }
-    let count = offsets.len() - 1;
-    if TOKEN_LIMIT < count {
-        return true;
-    }
-    if string_too_long(offsets) {
-        return true;
-    }
-    if count != ids.len() {
-        return true;
-    }
-    if count != lstrip.len() {
-        return true;
-    }
-    count != rstrip.len()
+    let count = tokens.contents.len();
+    tokens.contents.offsets.is_empty()
+        || TOKEN_LIMIT < count
+        || string_too_long(tokens.contents.offsets)
+        || count != tokens.ids.len()
+        || count != tokens.lstrip.len()
+        || count != tokens.rstrip.len()
 }
 
-fn wrong_step_sizes(step_bytes: &[u8], steps: [Step; 16], step_count: usize) -> bool
-    ensures { result ≡ wrong_step_sizes (take step_count steps) step_count }
+fn wrong_step_sizes(steps: &StepList<'_>) -> bool
+    ensures { result ≡ wrong_step_sizes (take steps.now.count steps.now.list) steps.now.count }
 {
-    if STEP_LIMIT < step_count {
-        return true;
-    }
-    steps_fail(WRONG_SIZE, step_bytes, steps, step_count)
+    STEP_LIMIT < steps.count || steps_fail(StepTest::Short, steps)
 }
 
 // Answer 1 applies to the model.
-pub fn wrong_sizes(
-    piece_bytes: &[u8],
-    piece_offsets: &[u32],
-    fallback: &[u32],
-    left: &[u32],
-    right: &[u32],
-    res: &[u32],
-    rank: &[u32],
-    first_offsets: &[u32],
-    first_ids: &[u32],
-    first_lstrip: &[bool],
-    first_rstrip: &[bool],
-    second_offsets: &[u32],
-    second_ids: &[u32],
-    second_lstrip: &[bool],
-    second_rstrip: &[bool],
-    step_bytes: &[u8],
-    steps: [Step; 16],
-    step_count: usize,
-) -> bool
-    ensures { result ≡ (wrong_piece_sizes piece_bytes.now piece_offsets.now || not (eqb (length fallback.now) 256) || wrong_row_sizes left.now right.now res.now rank.now || wrong_token_sizes first_offsets.now first_ids.now first_lstrip.now first_rstrip.now || wrong_token_sizes second_offsets.now second_ids.now second_lstrip.now second_rstrip.now || wrong_step_sizes (take step_count steps) step_count) }
+pub fn wrong_sizes(model: &Model<'_>) -> bool
+    ensures { result ≡ wrong_sizes (columns model.now) }
 {
-    if wrong_piece_sizes(piece_bytes, piece_offsets) {
-        return true;
-    }
-    if fallback.len() != FALLBACK_COUNT {
-        return true;
-    }
-    if wrong_row_sizes(left, right, res, rank) {
-        return true;
-    }
-    if wrong_token_sizes(first_offsets, first_ids, first_lstrip, first_rstrip) {
-        return true;
-    }
-    if wrong_token_sizes(second_offsets, second_ids, second_lstrip, second_rstrip) {
-        return true;
-    }
-    wrong_step_sizes(step_bytes, steps, step_count)
+    wrong_piece_sizes(&model.pieces)
+        || model.fallback.len() != FALLBACK_COUNT
+        || wrong_row_sizes(&model.rows)
+        || wrong_token_sizes(&model.first)
+        || wrong_token_sizes(&model.second)
+        || wrong_step_sizes(&model.steps)
 }

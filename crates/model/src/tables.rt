@@ -1,40 +1,24 @@
 // Reading the lent tables: numbers of a column, parts of bytes, and the strings that lie end to end.
-ghost use Rattle.std.specs.Prelude.{◌≡◌, [], ◌-◌, ◌<◌, min, length, get_or};
+ghost use Rattle.std.specs.Prelude.{◌≡◌, [], ◌-◌, length, get_or};
 ghost use Rattle.std.proofs.Math.Seq.{slice};
-ghost use Rattle.model.specs.Model.{strings, step_string};
+ghost use Rattle.model.specs.Model.{strings, strings_of, step_string};
 
-use crate::Span;
+use crate::{Span, Strings};
 
-// The bytes from `start` up to `stop`, as far as there are any.
-pub fn part(bytes: &[u8], start: usize, stop: usize) -> &[u8]
-    ensures { result.now ≡ slice start stop bytes.now }
+// The cells from `start` up to `stop`, as far as there are any.
+pub fn part<T>(cells: &[T], start: usize, stop: usize) -> &[T]
+    ensures { result.now ≡ slice start stop cells.now }
 {
     if stop <= start {
-        return &bytes[..0];
+        return &cells[..0];
     }
-    if stop <= bytes.len() {
-        return &bytes[start..stop];
+    if stop <= cells.len() {
+        return &cells[start..stop];
     }
-    if start <= bytes.len() {
-        return &bytes[start..];
+    if start <= cells.len() {
+        return &cells[start..];
     }
-    &bytes[..0]
-}
-
-// A 32-bit number of a table as a place.
-pub fn wide(n: u32) -> usize
-    ensures { (result ≡ n) × (result < 4294967296) }
-{
-    n as usize
-}
-
-pub fn lesser(a: usize, b: usize) -> usize
-    ensures { result ≡ min a b }
-{
-    if a <= b {
-        return a;
-    }
-    b
+    &cells[..0]
 }
 
 // The number at `i` of a column, 0 past its end.
@@ -42,6 +26,22 @@ pub fn number_at(column: &[u32], i: usize) -> u32
     ensures { result ≡ get_or column.now i 0 }
 {
     if i < column.len() { column[i] } else { 0 }
+}
+
+impl<'a> Strings<'a> {
+    // How many strings there are.
+    pub fn len(&self) -> usize
+        ensures { result ≡ length self.now.offsets.now - 1 }
+    {
+        self.offsets.len().saturating_sub(1)
+    }
+
+    // The string at `i`; the empty part where there is none.
+    pub fn get(&self, i: usize) -> &'a [u8]
+        ensures { result.now ≡ get_or (strings_of self.now) i [] }
+    {
+        string_at(self.bytes, self.offsets, i)
+    }
 }
 
 // The string at `i` of those that `offsets` cuts `bytes` into; the empty part where there is none.
@@ -55,24 +55,13 @@ pub fn string_at<'a>(bytes: &'a [u8], offsets: &[u32], i: usize) -> &'a [u8]
     if offsets.len() <= next {
         return &bytes[..0];
     }
-    part(bytes, wide(offsets[i]), wide(offsets[next]))
-}
-
-// How many strings a row of offsets cuts out.
-pub fn string_count(offsets: &[u32]) -> usize
-    ensures { result ≡ length offsets.now - 1 }
-{
-    if offsets.len() == 0 {
-        return 0;
-    }
-    offsets.len() - 1
+    part(bytes, offsets[i] as usize, offsets[next] as usize)
 }
 
 // The string of the step bytes that a span names.
 pub fn string_of(step_bytes: &[u8], span: Span) -> &[u8]
     ensures { result.now ≡ step_string step_bytes.now span }
 {
-    let start = wide(span.place);
-    let len = wide(span.len);
-    part(step_bytes, start, start + len)
+    let start = span.place as usize;
+    part(step_bytes, start, start + span.len as usize)
 }

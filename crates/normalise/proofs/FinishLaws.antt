@@ -1,15 +1,14 @@
 -- Laws of a buffer that holds a result.
-use mathlib.Core.Path.{◌≡◌, sym, ap, ◌∙◌}
-use mathlib.Core.List.{List, ◌++◌}
-use Prim.Native.Nat.{ℕ, ◌+◌, ◌-◌, ◌≤◌, ◌<◌}
-use native.Mathlib.Nat.{zero-add}
-use lib.ListN.{length, take, drop, length-replicate}
-use lib.Seq.{take-append_seam, length_front, length-take-le}
+use mathlib.Core.Path.{◌≡◌, sym}
+use mathlib.Core.List.{List, [], ◌++◌, append-nil}
+use Prim.Native.Nat.{ℕ, ◌-◌, ◌≤◌, ◌<◌}
+use borrow.Rule.Slice.PartMut.{put_mid}
+use native.Mathlib.Omega.{arith}
+use lib.ListN.{length, drop, length-drop, drop_of_length-le}
+use lib.Seq.{take-append_seam, drop-append_seam, length_front, length-take-le}
 use borrow.Author.Tests.{lt-ltb, le-ltb}
 use Rattle.model.specs.Answers.{zeros, filled, Outcome, outcome, done, refused}
-use Rattle.normalise.specs.declared.Ran.{Ran}
-use Rattle.normalise.specs.declared.Ran.TheVariants.{Given, InA, InB, TooLong}
-use Rattle.normalise.specs.inner.Run.{standing, is_too_long, finished, ended}
+use Rattle.normalise.specs.inner.Run.{finished}
 
 -- What a result leaves in the buffer.
 module _ (result out : List ℕ) where
@@ -17,32 +16,11 @@ module _ (result out : List ℕ) where
   unfolding finished outcome
   finished_short h = rw (lt-ltb (length out) (length result) h)
 
-  pub finished_fits : (copied last : List ℕ) → length result ≤ length out → copied ≡ result ++ drop (0 + length result) out → last ≡ take (length result) copied ++ zeros (length copied - length result) → ◌≡◌ {A = Outcome} (record { answer = done (length result) 0 0; out = last }) (finished result out)
+  -- the result is copied to the front, and what is behind it filled
+  pub finished_fits : {filled : List ℕ} {k : ℕ} → length result ≤ length out → filled ≡ zeros k → k ≡ length out - length result
+      → ◌≡◌ {A = Outcome} (record { answer = done (length result) 0 0; out = put_mid (length result) (length (result ++ drop (length result) out) - length result) (result ++ drop (length result) out) filled }) (finished result out)
   unfolding finished outcome filled
-  finished_fits copied last h c₀ l =
-      let c : copied ≡ result ++ drop (length result) out = c₀ ∙ ap (λ (n : ℕ). result ++ drop n out) (zero-add (length result)) in
-      let long : length copied ≡ length out = ap length c ∙ length_front out result (length result) (sym (length-take-le (length result) out h)) in
-      let front : take (length result) copied ≡ result = ap (take (length result)) c ∙ take-append_seam result (drop (length result) out) in
-      rw (le-ltb (length out) (length result) h, l, front, long)
-
--- The result at the end of a run, by where the text stands.
-module _ (text a b out : List ℕ) (ran : Ran) (o : Outcome) where
-  pub ended-given : ran ≡ Given → o ≡ finished text out → o ≡ ended ran (standing text ran a b) out
-  unfolding ended is_too_long standing
-  ended-given e f = rw e f
-
-  pub ended_in_a : (n : ℕ) (cur : List ℕ) → ran ≡ InA n → cur ≡ take n a → o ≡ finished cur out → o ≡ ended ran (standing text ran a b) out
-  unfolding ended is_too_long standing
-  ended_in_a n cur e c f = rw (e, ← c) f
-
-  pub ended_in_b : (n : ℕ) (cur : List ℕ) → ran ≡ InB n → cur ≡ take n b → o ≡ finished cur out → o ≡ ended ran (standing text ran a b) out
-  unfolding ended is_too_long standing
-  ended_in_b n cur e c f = rw (e, ← c) f
-
-pub ended_too_long : (text a b out : List ℕ) (ran : Ran) → ran ≡ TooLong → ◌≡◌ {A = Outcome} (record { answer = refused 11 0; out = out }) (ended ran (standing text ran a b) out)
-unfolding ended is_too_long
-ended_too_long text a b out ran e = rw e
-
--- A buffer of zeros is known by its length.
-pub all-zeros : (buffer : List ℕ) (k n : ℕ) → buffer ≡ zeros k → length buffer ≡ n → buffer ≡ zeros n
-all-zeros buffer k n e h = e ∙ ap zeros (sym (length-replicate k 0) ∙ ap length (sym e) ∙ h)
+  finished_fits h z e =
+      let long : length (result ++ drop (length result) out) ≡ length out = length_front out result (length result) (sym (length-take-le (length result) out h)) in
+      let none : drop (length out - length result) (drop (length result) out) ≡ [] = drop_of_length-le (drop (length result) out) {i = length out - length result} (omega (arith, length-drop (length result) out)) in
+      rw (le-ltb (length out) (length result) h, z, e, long, take-append_seam, drop-append_seam, none, append-nil)

@@ -17,11 +17,8 @@ use Rattle.model.proofs.AnswerLaws.{lowest_later, lowest-first, tests_positive, 
 use Rattle.normalise.specs.Steps.{step_outputs, stepped}
 use Rattle.normalise.specs.Spaces.{metaspaced}
 use Rattle.normalise.specs.Normalise.{normalised, outgrows, normalise_outputs, normalise_number, normalise_outcome}
-use Rattle.normalise.specs.inner.Run.{Run, standing, finished, ended, steps_run, metaspace_run, normal_run, settled_run}
-use Rattle.normalise.specs.declared.Ran.TheVariants.{Given}
+use Rattle.normalise.specs.inner.Run.{Run, standing, finished, ended, normal_run, settled_run}
 use Rattle.model.specs.declared.Answer.{Answer}
-use Rattle.model.specs.declared.Step.{Step}
-use Rattle.model.specs.declared.Metaspace.{Metaspace}
 use Rattle.normalise.proofs.StandLaws.{run_too_long, run_stands}
 
 module _ (m : Model) (text : List ℕ) (first : Bool) (out a b : List ℕ) where
@@ -120,16 +117,11 @@ module _ (g : Lent) where
       (valid_by_prefix g.text ∙ eq-eqb (length (longest_valid_prefix g.text)) (length g.text) (sym is ∙ whole))
 
 -- What the calls of a normalization leave, put together.
-pub settled_by_lem : (bytes : List ℕ) (steps : List Step) (metaspace : Metaspace) (first : Bool) (text out a b : List ℕ) (room : ℕ) (stepped-run whole_run : Run) (o : Outcome) (za zb : List ℕ)
-    → room ≡ min (length a) (length b)
-    → stepped-run ≡ steps_run bytes steps text room (record { ran = Given; a = a; b = b })
-    → whole_run ≡ metaspace_run metaspace first text room stepped-run
-    → o ≡ ended whole_run.ran (standing text whole_run.ran whole_run.a whole_run.b) out
+pub settled_by_lem : (whole_run run : Run) (text out a b : List ℕ) (o : Outcome) (za zb : List ℕ)
+    → run ≡ whole_run
+    → o ≡ ended run.ran (standing text run.ran run.a run.b) out
     → za ≡ zeros (length a)
     → zb ≡ zeros (length b)
-    → ◌≡◌ {A = ScratchOutcome} (record { answer = o.answer; out = o.out; scratch_a = za; scratch_b = zb }) (settled_run (normal_run bytes steps metaspace first text (min (length a) (length b)) a b) text out a b)
-unfolding normal_run settled_run
-settled_by_lem bytes steps metaspace first text out a b room stepped-run whole_run o za zb r s w e fa fb =
-    rw (e, fa, fb)
-    (ap (λ (run : Run). settled_run run text out a b) (w ∙ ap (metaspace_run metaspace first text room) s)
-    ∙ ap (λ (n : ℕ). settled_run (normal_run bytes steps metaspace first text n a b) text out a b) r)
+    → ◌≡◌ {A = ScratchOutcome} (record { answer = o.answer; out = o.out; scratch_a = za; scratch_b = zb }) (settled_run whole_run text out a b)
+unfolding settled_run
+settled_by_lem whole_run run text out a b o za zb r e fa fb = rw (e, fa, fb, ← r)

@@ -1,40 +1,31 @@
 -- Laws of metaspace: how the marked text begins at a place, and where a mark is put in front. Assumes nothing.
-use Prim.Native.Nat.{ℕ, ◌+◌, ◌≤◌, ◌<◌}
+use Prim.Native.Nat.{ℕ, ◌<◌}
 use native.Mathlib.Omega.{arith}
-use native.Mathlib.Numerals.{add-one}
 use mathlib.Core.Path.{◌≡◌, refl, ap, ◌∙◌}
 use mathlib.Core.Bool.{Bool, true, false, not, ◌&&◌, and-false}
 use mathlib.Core.Logic.{⊎_elim}
 use mathlib.Core.List.{List, [], ◌∷◌, ◌++◌}
 use borrow.Author.Tests.{not-true, eqb-true, eq-eqb, ne_eqb}
 use lib.Dec.{eqb}
-use lib.ListN.{length, take, drop, get_or, length-append, drop_of_length-le}
-use lib.Seq.{drop-cons, length-take-le}
+use lib.ListN.{length, get_or}
+use lib.Seq.{drop-cons}
 use Rattle.utf8.specs.Lists.{is_empty, all, starts_with}
 use Rattle.utf8.proofs.Tests.{either, and_left, and_right}
 use Rattle.utf8.proofs.Starts.{no_elements}
-use Rattle.utf8.proofs.Writing.{Begins}
+use Rattle.std.specs.Prelude.{Some, None}
+use Rattle.normalise.specs.inner.Heads.{Head}
 use Rattle.model.specs.Mark.{mark}
 use Rattle.normalise.specs.Spaces.{spaces_marked, mark_prepended}
 
-pub mark-length : length mark ≡ 3
-unfolding mark
-mark-length = refl
+-- ---- the marked text from its head on
 
--- ---- the marked text from a place on
+pub marked_space : (t : List ℕ) → 0 < length t → get_or t 0 0 ≡ 0x20 → Head spaces_marked mark t (Some 1)
+unfolding spaces_marked
+marked_space t h e = (omega arith, h, rw (drop-cons t 0 0 h, eq-eqb (get_or t 0 0) 0x20 e))
 
-module _ (s : List ℕ) (i : ℕ) where
-  pub marked_space : i < length s → get_or s i 0 ≡ 0x20 → Begins (spaces_marked (drop i s)) mark (spaces_marked (drop (i + 1) s))
-  unfolding spaces_marked
-  marked_space h e = record { is = rw (add-one, drop-cons s i 0 h, eq-eqb (get_or s i 0) 0x20 e) }
-
-  pub marked_byte : i < length s → (get_or s i 0 ≡ 0x20 → ⊥) → Begins (spaces_marked (drop i s)) (get_or s i 0 ∷ []) (spaces_marked (drop (i + 1) s))
-  unfolding spaces_marked
-  marked_byte h e = record { is = rw (add-one, drop-cons s i 0 h, ne_eqb (get_or s i 0) 0x20 e) }
-
-  pub marked_ended : length s ≤ i → spaces_marked (drop i s) ≡ []
-  unfolding spaces_marked
-  marked_ended h = rw (drop_of_length-le s h)
+pub marked_byte : (t : List ℕ) → 0 < length t → (get_or t 0 0 ≡ 0x20 → ⊥) → Head spaces_marked mark t None
+unfolding spaces_marked
+marked_byte t h e = rw (drop-cons t 0 0 h, ne_eqb (get_or t 0 0) 0x20 e)
 
 -- ---- whether it begins with the mark
 
@@ -71,30 +62,24 @@ space_starts (b ∷ t) h e = rw (eq-eqb b 0x20 e)
 -- ---- what is put in front of the marked text
 
 module _ (wanted : Bool) (t : List ℕ) where
-  pub lead_unwanted : wanted ≡ false → take 0 mark ++ spaces_marked t ≡ mark_prepended wanted (spaces_marked t)
+  pub lead_unwanted : wanted ≡ false → spaces_marked t ≡ mark_prepended wanted (spaces_marked t)
   unfolding mark_prepended
   lead_unwanted e = rw e
 
-  pub lead_empty : length t ≡ 0 → take 0 mark ++ spaces_marked t ≡ mark_prepended wanted (spaces_marked t)
+  pub lead_empty : length t ≡ 0 → spaces_marked t ≡ mark_prepended wanted (spaces_marked t)
   unfolding mark_prepended spaces_marked
   lead_empty e = rw (no_elements t e, and-false)
 
-  lead_begun : starts_with mark (spaces_marked t) ≡ true → take 0 mark ++ spaces_marked t ≡ mark_prepended wanted (spaces_marked t)
+  lead_begun : starts_with mark (spaces_marked t) ≡ true → spaces_marked t ≡ mark_prepended wanted (spaces_marked t)
   unfolding mark_prepended
   lead_begun e = rw (e, and-false)
 
-  pub lead_space : 0 < length t → get_or t 0 0 ≡ 0x20 → take 0 mark ++ spaces_marked t ≡ mark_prepended wanted (spaces_marked t)
+  pub lead_space : 0 < length t → get_or t 0 0 ≡ 0x20 → spaces_marked t ≡ mark_prepended wanted (spaces_marked t)
   lead_space h e = lead_begun (space_starts t h e)
 
-  pub lead_mark : 0 < length t → (get_or t 0 0 ≡ 0x20 → ⊥) → starts_with mark t ≡ true → take 0 mark ++ spaces_marked t ≡ mark_prepended wanted (spaces_marked t)
+  pub lead_mark : 0 < length t → (get_or t 0 0 ≡ 0x20 → ⊥) → starts_with mark t ≡ true → spaces_marked t ≡ mark_prepended wanted (spaces_marked t)
   lead_mark h e m = lead_begun (mark_starts t h e ∙ m)
 
-  pub lead_put : wanted ≡ true → 0 < length t → (get_or t 0 0 ≡ 0x20 → ⊥) → starts_with mark t ≡ false → take 3 mark ++ spaces_marked t ≡ mark_prepended wanted (spaces_marked t)
+  pub lead_put : wanted ≡ true → 0 < length t → (get_or t 0 0 ≡ 0x20 → ⊥) → starts_with mark t ≡ false → mark ++ spaces_marked t ≡ mark_prepended wanted (spaces_marked t)
   unfolding mark_prepended mark
   lead_put w h e m = rw (w, marked_some t h e, mark_starts t h e ∙ m)
-
-pub lead_length : (w : ℕ) → w ≤ 3 → length (take w mark) ≡ w
-lead_length w h = length-take-le w mark (rw mark-length h)
-
-pub lead_and_text : (w : ℕ) (t output : List ℕ) → w ≤ 3 → take w mark ++ spaces_marked t ≡ output → w + length (spaces_marked t) ≡ length output
-lead_and_text w t output h e = omega (arith, ap length e, length-append (take w mark) (spaces_marked t), lead_length w h)

@@ -1,66 +1,49 @@
 // The step CollapseSpaces.
-ghost use Rattle.std.specs.Prelude.{◌≡◌, ◌++◌, ◌≤◌, length, drop};
+ghost use Rattle.std.specs.Prelude.{◌≡◌, ◌==◌};
+ghost use Rattle.std.specs.List.{prefix_len};
 ghost use Rattle.normalise.specs.Steps.{collapsed};
-ghost use Rattle.normalise.specs.inner.Fit.{Put, fitted, put};
+ghost use Rattle.normalise.specs.inner.Fit.{Put, put};
+ghost use Rattle.normalise.specs.inner.Heads.{collapsed-none};
 
-use crate::Length;
-use crate::copy::copy_at;
-use crate::prefix::space_run;
-use model::tables::lesser;
+use crate::exchange::{Exchange, put_exchanged};
 
-fn collapsed_length(content: &[u8], text: &[u8], room: usize) -> Length
-    ensures { result ≡ fitted (length (collapsed content.now text.now)) room }
+// How many spaces stand at the head.
+fn space_run(text: &[u8]) -> usize
+    ensures { result ≡ prefix_len (λ b. b == 0x20) text.now }
 {
-    let mut i = 0;
-    let mut n = 0;
-    while i < text.len() {
-        let run = space_run(&text[i..]);
-        if run < 2 {
-            if room - n < 1 {
-                return Length::TooLong;
-            }
-            n += 1;
-            i += 1;
-        } else {
-            if room - n < content.len() {
-                return Length::TooLong;
-            }
-            n += content.len();
-            i += run;
-        }
-    }
-    Length::Fits(n)
+    text.iter().take_while(|b| **b == 0x20).count()
 }
 
-fn write_collapsed(content: &[u8], text: &[u8], out: &mut [u8])
-    requires { length (collapsed content.now text.now) ≤ length out.old }
-    ensures { out.new ≡ collapsed content.now text.now ++ drop (length (collapsed content.now text.now)) out.old }
-{
-    let mut i = 0;
-    let mut at = 0;
-    while i < text.len() {
-        let spaces = space_run(&text[i..]);
-        if spaces < 2 {
-            out[at] = text[i];
-            at += 1;
-            i += 1;
-        } else {
-            copy_at(out, at, content);
-            at += content.len();
-            i += spaces;
-        }
+// Runs of two spaces and more, for a content.
+#[derive(Clone, Copy)]
+struct SpaceRuns<'a> {
+    content: &'a [u8],
+}
+
+impl<'a> Exchange for SpaceRuns<'a> {
+    ghost content = { λ e. e.content.now };
+
+    ghost exchanged = { λ e. collapsed e.content.now };
+
+    ghost ends = { λ e. collapsed-none e.content.now };
+
+    fn content(&self) -> &[u8] {
+        self.content
+    }
+
+    fn found(&self, rest: &[u8]) -> Option<usize> {
+        let run = space_run(rest);
+        if run < 2 { None } else { Some(run) }
     }
 }
 
-pub fn collapse_space_runs(content: &[u8], text: &[u8], room: usize, out: &mut [u8]) -> Length
+pub fn collapse_space_runs(
+    content: &[u8],
+    text: &[u8],
+    room: usize,
+    out: &mut [u8],
+) -> Option<usize>
     ensures { ◌≡◌ {A = Put} (record { length = result; out = out.new }) (put (collapsed content.now text.now) room out.old) }
 {
-    let length = collapsed_length(content, text, lesser(room, out.len()));
-    match length {
-        Length::TooLong => Length::TooLong,
-        Length::Fits(n) => {
-            write_collapsed(content, text, out);
-            Length::Fits(n)
-        }
-    }
+    put_exchanged(&SpaceRuns { content }, &[], text, room, out)
 }

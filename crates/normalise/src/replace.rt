@@ -1,92 +1,57 @@
 // The step Replace.
-ghost use Rattle.std.specs.Prelude.{◌≡◌, [], ◌++◌, ◌≤◌, ◌<◌, length, drop};
+ghost use Rattle.std.specs.Prelude.{◌≡◌, ◌<◌, ◌≤◌, [], ◌++◌, length, drop};
 ghost use Rattle.normalise.specs.Steps.{replaced};
 ghost use Rattle.normalise.specs.inner.Fit.{Put, fitted, put};
+ghost use Rattle.normalise.specs.inner.Heads.{replaced-none};
 
-use crate::Length;
-use crate::copy::copy_at;
-use model::tables::lesser;
+use crate::exchange::{Exchange, put_exchanged};
 use utf8::chars::char_step;
 use utf8::edges::starts_with;
 
-// The measure where the pattern is not empty.
-fn exchanged_length(pattern: &[u8], content: &[u8], text: &[u8], room: usize) -> Length
-    requires { 0 < length pattern.now }
-    ensures { result ≡ fitted (length (replaced pattern.now content.now text.now)) room }
-{
-    let mut i = 0;
-    let mut n = 0;
-    while i < text.len() {
-        if starts_with(&text[i..], pattern) {
-            if room - n < content.len() {
-                return Length::TooLong;
-            }
-            n += content.len();
-            i += pattern.len();
-        } else {
-            if room - n < 1 {
-                return Length::TooLong;
-            }
-            n += 1;
-            i += 1;
-        }
-    }
-    Length::Fits(n)
+// Occurrences of a pattern that is not empty, for a content.
+#[derive(Clone, Copy)]
+struct Occurrences<'a> {
+    pattern: &'a [u8],
+    content: &'a [u8],
+    ghost some: { 0 < length pattern.now },
 }
 
-// The measure where the pattern is empty.
-fn inserted_length(content: &[u8], text: &[u8], room: usize) -> Length
+impl<'a> Exchange for Occurrences<'a> {
+    ghost content = { λ e. e.content.now };
+
+    ghost exchanged = { λ e. replaced e.pattern.now e.content.now };
+
+    ghost ends = { λ e. replaced-none e.pattern.now e.content.now e.some };
+
+    fn content(&self) -> &[u8] {
+        self.content
+    }
+
+    fn found(&self, rest: &[u8]) -> Option<usize> {
+        if starts_with(rest, self.pattern) {
+            Some(self.pattern.len())
+        } else {
+            None
+        }
+    }
+}
+
+// The measure where the pattern is empty. This is no `Exchange`: the content stands before each character and at the end, in place
+// of nothing.
+fn inserted_length(content: &[u8], text: &[u8], room: usize) -> Option<usize>
     ensures { result ≡ fitted (length (replaced [] content.now text.now)) room }
 {
-    let mut i = 0;
-    let mut n = 0;
-    while i < text.len() {
-        let w = char_step(&text[i..]);
-        if room - n < content.len() {
-            return Length::TooLong;
-        }
-        n += content.len();
-        if room - n < w {
-            return Length::TooLong;
-        }
-        n += w;
-        i += w;
+    let mut left = room;
+    let mut rest = text;
+    while !rest.is_empty() {
+        let (character, others) = rest.split_at(char_step(rest));
+        left = left
+            .checked_sub(content.len())?
+            .checked_sub(character.len())?;
+        rest = others;
     }
-    if room - n < content.len() {
-        return Length::TooLong;
-    }
-    Length::Fits(n + content.len())
-}
-
-fn replaced_length(pattern: &[u8], content: &[u8], text: &[u8], room: usize) -> Length
-    ensures { result ≡ fitted (length (replaced pattern.now content.now text.now)) room }
-{
-    if pattern.len() == 0 {
-        return inserted_length(content, text, room);
-    }
-    exchanged_length(pattern, content, text, room)
-}
-
-// The writer where the pattern is not empty.
-fn write_exchanged(pattern: &[u8], content: &[u8], text: &[u8], out: &mut [u8])
-    requires pattern_nonzero { 0 < length pattern.now }
-    requires text_in_bounds { length (replaced pattern.now content.now text.now) ≤ length out.old }
-    ensures { out.new ≡ replaced pattern.now content.now text.now ++ drop (length (replaced pattern.now content.now text.now)) out.old }
-{
-    let mut i = 0;
-    let mut at = 0;
-    while i < text.len() {
-        if starts_with(&text[i..], pattern) {
-            let next = i + pattern.len();
-            copy_at(out, at, content);
-            at += content.len();
-            i = next;
-        } else {
-            out[at] = text[i];
-            at += 1;
-            i += 1;
-        }
-    }
+    left = left.checked_sub(content.len())?;
+    Some(room - left)
 }
 
 // The writer where the pattern is empty.
@@ -94,40 +59,34 @@ fn write_inserted(content: &[u8], text: &[u8], out: &mut [u8])
     requires { length (replaced [] content.now text.now) ≤ length out.old }
     ensures { out.new ≡ replaced [] content.now text.now ++ drop (length (replaced [] content.now text.now)) out.old }
 {
-    let mut i = 0;
     let mut at = 0;
-    while i < text.len() {
-        let w = char_step(&text[i..]);
-        copy_at(out, at, content);
-        at += content.len();
-        let next = i + w;
-        copy_at(out, at, &text[i..next]);
-        at += w;
-        i = next;
+    let mut rest = text;
+    while !rest.is_empty() {
+        let (character, others) = rest.split_at(char_step(rest));
+        let middle = at + content.len();
+        out[at..middle].copy_from_slice(content);
+        let next = middle + character.len();
+        out[middle..next].copy_from_slice(character);
+        at = next;
+        rest = others;
     }
-    copy_at(out, at, content);
+    let end = at + content.len();
+    out[at..end].copy_from_slice(content);
 }
 
-fn write_replaced(pattern: &[u8], content: &[u8], text: &[u8], out: &mut [u8])
-    requires { length (replaced pattern.now content.now text.now) ≤ length out.old }
-    ensures { out.new ≡ replaced pattern.now content.now text.now ++ drop (length (replaced pattern.now content.now text.now)) out.old }
-{
-    if pattern.len() == 0 {
-        write_inserted(content, text, out);
-        return;
-    }
-    write_exchanged(pattern, content, text, out);
-}
-
-pub fn replace(pattern: &[u8], content: &[u8], text: &[u8], room: usize, out: &mut [u8]) -> Length
+pub fn replace(
+    pattern: &[u8],
+    content: &[u8],
+    text: &[u8],
+    room: usize,
+    out: &mut [u8],
+) -> Option<usize>
     ensures { ◌≡◌ {A = Put} (record { length = result; out = out.new }) (put (replaced pattern.now content.now text.now) room out.old) }
 {
-    let length = replaced_length(pattern, content, text, lesser(room, out.len()));
-    match length {
-        Length::TooLong => Length::TooLong,
-        Length::Fits(n) => {
-            write_replaced(pattern, content, text, out);
-            Length::Fits(n)
-        }
+    if !pattern.is_empty() {
+        return put_exchanged(&Occurrences { pattern, content }, &[], text, room, out);
     }
+    let n = inserted_length(content, text, room.min(out.len()))?;
+    write_inserted(content, text, out);
+    Some(n)
 }

@@ -3,7 +3,6 @@ ghost use Rattle.std.specs.Prelude.{◌≡◌};
 ghost use Rattle.normalise.specs.Steps.{applied};
 ghost use Rattle.normalise.specs.inner.Fit.{Put, put};
 
-use crate::Length;
 use crate::collapse::collapse_space_runs;
 use crate::prepend::prepend;
 use crate::replace::replace;
@@ -11,7 +10,13 @@ use crate::strip::strip;
 use model::Step;
 use model::tables::string_of;
 
-pub fn apply_step(step_bytes: &[u8], step: Step, text: &[u8], room: usize, out: &mut [u8]) -> Length
+pub fn apply_step(
+    step_bytes: &[u8],
+    step: Step,
+    text: &[u8],
+    room: usize,
+    out: &mut [u8],
+) -> Option<usize>
     ensures { ◌≡◌ {A = Put} (record { length = result; out = out.new }) (put (applied step_bytes.now step text.now) room out.old) }
 {
     match step {

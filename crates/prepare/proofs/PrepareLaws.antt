@@ -1,4 +1,5 @@
 -- The outcome of prepare by the first test that applies, and what is derived by the tables that it is derived of.
+use Rattle.std.specs.Prelude.{Option}
 use mathlib.Core.Path.{◌≡◌, refl, sym, ap, ◌∙◌}
 use mathlib.Core.Bool.{Bool, true, false, ◌||◌}
 use mathlib.Core.List.{List, [], ◌∷◌}
@@ -20,13 +21,13 @@ use Rattle.model.proofs.AnswerLaws.{lowest_later, lowest-first, tests_positive, 
 use Rattle.model.proofs.StringLaws.{length-strings}
 use Rattle.model.proofs.CompleteLaws.{lookup-length}
 use Rattle.model.proofs.Accepted.{Accepted}
+use Rattle.units.specs.declared.RawPrepend.{RawPrepend}
 use Rattle.units.specs.Kinds.{crossings, is_tangled, splits, word_split, kind_of, raw_path}
 use Rattle.units.specs.Adjacency.{adjacency, adjacency_word}
 use Rattle.units.specs.Derived.{Noting, crossing_places, noted_of, place_words, noted_words, noting}
 use Rattle.units.specs.inner.Path.{raw_path_by}
 use Rattle.units.specs.inner.Read.{crossing_of}
 use Rattle.units.specs.declared.WordSplit.{WordSplit}
-use Rattle.units.specs.declared.RawPath.{RawPath}
 use Rattle.units.proofs.NotingLaws.{crossings_by_place, words-length}
 use Rattle.prepare.specs.Layout.{index_row}
 use Rattle.prepare.specs.Numbers.{kind_number, raw_path_number}
@@ -72,7 +73,7 @@ module _ (m : Model) (rows index : List ℕ) where
 
 -- ---- crossings that are noted
 
-module _ (pieces : List (List ℕ)) (metaspace : Metaspace) where
+module _ (pieces : List (List ℕ)) (metaspace : Option Metaspace) where
   abbrev kind : WordSplit
   kind = word_split (crossings pieces) metaspace
 
@@ -101,7 +102,7 @@ module _ (pieces : List (List ℕ)) (metaspace : Metaspace) where
       length-append words (zeros (64 - length words)) ∙ omega (arith, words-length places, few_noted, length-replicate {A = ℕ} (64 - length words) 0)
 
 -- The index of what was derived one by one.
-module _ (pieces : List (List ℕ)) (lookup left right rank : List ℕ) (first second : List (List ℕ)) (bytes : List ℕ) (steps : List Step) (metaspace : Metaspace) (split : WordSplit) (count : ℕ) (noted : List ℕ) (is : ◌≡◌ {A = Noting} (record { kind = split; count = count; noted = noted }) (noting pieces (word_split (crossings pieces) metaspace))) where
+module _ (pieces : List (List ℕ)) (lookup left right rank : List ℕ) (first second : List (List ℕ)) (bytes : List ℕ) (steps : List Step) (metaspace : Option Metaspace) (split : WordSplit) (count : ℕ) (noted : List ℕ) (is : ◌≡◌ {A = Noting} (record { kind = split; count = count; noted = noted }) (noting pieces (word_split (crossings pieces) metaspace))) where
   pub count_small : count ≤ 32
   count_small = omega (arith, ap (λ (n : Noting). n.count) is, few_counted pieces metaspace)
 
@@ -112,7 +113,7 @@ module _ (pieces : List (List ℕ)) (lookup left right rank : List ℕ) (first s
   unfolding noting
   kind-is = ap (λ (n : Noting). n.kind) is
 
-  pub index_derived : (path : RawPath) (kind_word path_word : ℕ) → path ≡ raw_path_by split (is_empty second) bytes steps metaspace → kind_word ≡ kind_number split → path_word ≡ raw_path_number path
+  pub index_derived : (path : Option RawPrepend) (kind_word path_word : ℕ) → path ≡ raw_path_by split (is_empty second) bytes steps metaspace → kind_word ≡ kind_number split → path_word ≡ raw_path_number path
       → index_row kind_word path_word count noted pieces lookup left right rank first second ≡ index_of pieces lookup left right rank first second bytes steps metaspace
   unfolding index_of
   index_derived path kind_word path_word p k q =

@@ -1,4 +1,5 @@
 -- What a prepared call reads of the two rows that it is lent, and that prepare fills rows of the fixed lengths with them. Assumes nothing.
+use Rattle.std.specs.Prelude.{Option}
 use Prim.Native.Nat.{ℕ, ◌-◌}
 use native.Mathlib.Omega.{arith}
 use mathlib.Core.Path.{◌≡◌, sym, ap, ◌∙◌}
@@ -10,8 +11,8 @@ use Rattle.model.specs.Model.{Model, contents, pieces_of}
 use Rattle.model.specs.Answers.{filled, done}
 use Rattle.model.specs.Check.{check_number}
 use Rattle.model.specs.declared.Answer.{Answer}
+use Rattle.units.specs.declared.RawPrepend.{RawPrepend}
 use Rattle.units.specs.Kinds.{raw_path}
-use Rattle.units.specs.declared.RawPath.{RawPath}
 use Rattle.sections.specs.Beginnings.{beginnings}
 use Rattle.prepare.specs.Layout.{raw_path_at, first_tokens_at, second_tokens_at, longest_content_at}
 use Rattle.prepare.specs.inner.Read.{raw_path_from}
@@ -25,7 +26,7 @@ unfolding beginnings
 own_length contents n e = e ∙ ap (beginnings contents) (sym (ap length e ∙ length-row _ n))
 
 module _ (m : Model) {index : List ℕ} (is : index ≡ derived_index m) where
-  pub path_read : {number : ℕ} {path : RawPath} → number ≡ get_or index raw_path_at 0 → path ≡ raw_path_from number → path ≡ raw_path m
+  pub path_read : {number : ℕ} {path : Option RawPrepend} → number ≡ get_or index raw_path_at 0 → path ≡ raw_path_from number → path ≡ raw_path m
   path_read e f = f ∙ ap raw_path_from (e ∙ ap (λ (l : List ℕ). get_or l raw_path_at 0) is) ∙ raw_path_read m
 
   pub first_begins : {row : List ℕ} → row ≡ slice first_tokens_at second_tokens_at index → row ≡ beginnings (contents m.first) (length row)

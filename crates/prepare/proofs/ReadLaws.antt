@@ -1,4 +1,5 @@
 -- What is read from the index of a model.
+use Rattle.std.specs.Prelude.{Option, None, Some}
 use mathlib.Core.Path.{◌≡◌, refl, sym, ap, ◌∙◌}
 use mathlib.Core.List.{List, ◌∷◌, ◌++◌, [], append_assoc, append-nil}
 use Prim.Native.Nat.{ℕ, ◌+◌, ◌≤◌, ◌<◌}
@@ -12,10 +13,9 @@ use Rattle.sections.proofs.SeekLaws.{length-beginnings}
 use Rattle.units.specs.Kinds.{kind_of, raw_path}
 use Rattle.units.specs.Derived.{noting}
 use Rattle.units.specs.declared.WordSplit.{WordSplit}
-use Rattle.units.specs.declared.WordSplit.TheVariants.{SpaceRuns, EveryMark, None}
+use Rattle.units.specs.declared.WordSplit.TheVariants as kind
+use Rattle.units.specs.declared.RawPrepend.{RawPrepend}
 use Rattle.units.specs.declared.RawPrepend.TheVariants as prepend
-use Rattle.units.specs.declared.RawPath.{RawPath}
-use Rattle.units.specs.declared.RawPath.TheVariants.{Absent, Present}
 use Rattle.prepare.specs.Layout.{kind_at, raw_path_at, crossing_count_at, crossings_at, mark_id_at, shift_at, first_bytes_at, buckets_at, first_tokens_at, second_tokens_at, longest_content_at, index_length, piece_words, token_words, index_row}
 use Rattle.prepare.specs.Numbers.{kind_number, raw_path_number}
 use Rattle.prepare.specs.inner.Read.{kind_from, raw_path_from}
@@ -26,17 +26,17 @@ use Rattle.prepare.proofs.PrepareLaws.{noted-long}
 -- A number gives back what it stands for.
 pub kind-back : (kind : WordSplit) → kind_from (kind_number kind) ≡ kind
 unfolding kind_from kind_number
-kind-back SpaceRuns = refl
-kind-back EveryMark = refl
-kind-back None = refl
+kind-back kind.SpaceRuns = refl
+kind-back kind.EveryMark = refl
+kind-back kind.None = refl
 
-pub raw_path_back : (path : RawPath) → raw_path_from (raw_path_number path) ≡ path
+pub raw_path_back : (path : Option RawPrepend) → raw_path_from (raw_path_number path) ≡ path
 unfolding raw_path_from raw_path_number
-raw_path_back Absent = refl
-raw_path_back (Present prepend.Never) = refl
-raw_path_back (Present prepend.Unguarded) = refl
-raw_path_back (Present prepend.GuardedAlways) = refl
-raw_path_back (Present prepend.GuardedFirst) = refl
+raw_path_back None = refl
+raw_path_back (Some prepend.Never) = refl
+raw_path_back (Some prepend.Unguarded) = refl
+raw_path_back (Some prepend.GuardedAlways) = refl
+raw_path_back (Some prepend.GuardedFirst) = refl
 
 -- A part of a list that has a front before it and a rest behind it.
 part-between : (front part rest : List ℕ) (from to : ℕ) → length front ≡ from → from + length part ≡ to → slice from to (front ++ (part ++ rest)) ≡ part

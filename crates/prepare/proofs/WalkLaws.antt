@@ -1,6 +1,8 @@
 -- Laws of walks along a table that go on from where the last ended, and of the rows that they fill.
+use Rattle.std.specs.Prelude.{Option, None, Some}
 use mathlib.Core.Path.{◌≡◌, refl, sym, ap, ◌∙◌}
-use mathlib.Core.Bool.{true}
+use mathlib.Core.Logic.{⊎_elim}
+use mathlib.Core.Bool.{Bool, true}
 use mathlib.Core.List.{List, [], ◌∷◌, ◌++◌, map}
 use Prim.Native.Nat.{ℕ, ◌+◌, ◌-◌, ◌*◌, ◌^◌, ◌≤◌, ◌<◌}
 use native.Mathlib.Nat.{zero-add, zero-mul, mul-le-mul_right, pow-le-pow_right}
@@ -9,46 +11,32 @@ use native.Mathlib.Omega.{arith}
 use borrow.Author.Tests.{lt-ltb, le-ltb, ltb-true}
 use lib.Dec.{ltb}
 use lib.ListN.{length, get_or, take, drop, set, length-set}
-use lib.Seq.{paste, paste-zero, paste-suc, take_all}
+use lib.Seq.{slice, paste, paste-zero, paste-suc, take_all, take-length}
+use Rattle.std.specs.List.{prefix_len}
+use Rattle.std.proofs.lemmas.List.Folds.{length-prefix_len}
 use Rattle.utf8.specs.Lists.{take_while, below}
+use Rattle.utf8.proofs.Tests.{either}
 use Rattle.utf8.proofs.Places.{get_or_count_from}
 use Rattle.utf8.proofs.Fronts.{front-within, front-next, front-stop, front-end, front_on, length-row, get_or_row}
 use Rattle.model.specs.Model.{piece, no_id}
 use Rattle.model.specs.Check.{lookup_ascends}
 use Rattle.model.specs.inner.Search.{found_piece, id_at}
-use Rattle.model.specs.declared.Found.{Found}
-use Rattle.model.specs.declared.Found.TheVariants.{At, Nothing}
 use Rattle.model.proofs.LookupLaws.{id_found}
 use Rattle.index.specs.Index.{id_or, key_id, first_byte_start, bucket_shift, bucket_start}
 use Rattle.prepare.specs.inner.Walk.{below_from, first_below_from}
 
--- ---- a walk, by one entry
+-- ---- a walk
 
-module _ (column : List ℕ) (i bound : ℕ) where
-  pub below_next : i < length column → get_or column i 0 < bound → below_from column i bound ≡ below_from column (i + 1) bound
-  unfolding below_from
-  below_next h l = front-next _ column i 0 h (lt-ltb (get_or column i 0) bound l)
+-- The library's word for how many pass at the head of a list.
+heads : (test : ℕ → Bool) (xs : List ℕ) → prefix_len test xs ≡ length (take_while test xs)
+heads test [] = refl
+heads test (x ∷ xs) = ⊎_elim (λ e. rw e (omega (arith, heads test xs))) (λ e. rw e) (either (test x))
 
-  pub below-stop : i < length column → bound ≤ get_or column i 0 → below_from column i bound ≡ i
-  unfolding below_from
-  below-stop h l = front-stop _ column i 0 h (le-ltb (get_or column i 0) bound l)
-
-  pub below_end : length column ≤ i → below_from column i bound ≡ i
-  unfolding below_from
-  below_end h = front-end _ column i h
-
-module _ (pieces : List (List ℕ)) (lookup : List ℕ) (i bound : ℕ) where
-  pub first_next : i < length lookup → get_or (piece pieces (get_or lookup i 0)) 0 0 < bound → first_below_from pieces lookup i bound ≡ first_below_from pieces lookup (i + 1) bound
-  unfolding first_below_from
-  first_next h l = front-next _ lookup i 0 h (lt-ltb (get_or (piece pieces (get_or lookup i 0)) 0 0) bound l)
-
-  pub first-stop : i < length lookup → bound ≤ get_or (piece pieces (get_or lookup i 0)) 0 0 → first_below_from pieces lookup i bound ≡ i
-  unfolding first_below_from
-  first-stop h l = front-stop _ lookup i 0 h (le-ltb (get_or (piece pieces (get_or lookup i 0)) 0 0) bound l)
-
-  pub first-end : length lookup ≤ i → first_below_from pieces lookup i bound ≡ i
-  unfolding first_below_from
-  first-end h = front-end _ lookup i h
+-- From a place on.
+pub walked : (test : ℕ → Bool) (from : ℕ) (column : List ℕ) {n : ℕ}
+    → n ≡ length (take (prefix_len test (slice from (length column) column)) (slice from (length column) column)) → from + n ≡ from + length (take_while test (drop from column))
+walked test from column e =
+    ap (λ (n : ℕ). from + n) (e ∙ length-prefix_len test (slice from (length column) column) ∙ heads test (slice from (length column) column) ∙ ap (λ (l : List ℕ). length (take_while test (drop from l))) (take-length column))
 
 -- ---- for bounds that rise, going on from where the last walk ended is as good as starting anew
 
@@ -130,18 +118,18 @@ shift_room shift h =
 -- ---- the id of a key
 
 module _ (pieces : List (List ℕ)) (lookup : List ℕ) (ascends : lookup_ascends pieces lookup ≡ true) where
-  module _ (key : List ℕ) (found : Found) (e : found ≡ found_piece pieces lookup key) where
+  module _ (key : List ℕ) (found : Option ℕ) (e : found ≡ found_piece pieces lookup key) where
     key_found : id_or (id_at lookup found) ≡ key_id pieces lookup key
     unfolding key_id
-    key_found = ap (λ (f : Found). id_or (id_at lookup f)) e ∙ ap id_or (id_found pieces lookup ascends key)
+    key_found = ap (λ (f : Option ℕ). id_or (id_at lookup f)) e ∙ ap id_or (id_found pieces lookup ascends key)
 
-    pub key_at : (place : ℕ) → found ≡ At place → get_or lookup place 0 ≡ key_id pieces lookup key
+    pub key_at : (place : ℕ) → found ≡ Some place → get_or lookup place 0 ≡ key_id pieces lookup key
     unfolding id_at
-    key_at place f = sym (ap (λ (g : Found). id_or (id_at lookup g)) f) ∙ key_found
+    key_at place f = sym (ap (λ (g : Option ℕ). id_or (id_at lookup g)) f) ∙ key_found
 
-    pub key_none : found ≡ Nothing → no_id ≡ key_id pieces lookup key
+    pub key_none : found ≡ None → no_id ≡ key_id pieces lookup key
     unfolding id_at
-    key_none f = sym (ap (λ (g : Found). id_or (id_at lookup g)) f) ∙ key_found
+    key_none f = sym (ap (λ (g : Option ℕ). id_or (id_at lookup g)) f) ∙ key_found
 
 -- ---- a loop that fills a row with what a function gives each number
 

@@ -12,11 +12,12 @@ mod walk;
 
 ghost use Rattle.std.specs.Prelude.{◌≡◌};
 ghost use Rattle.model.specs.Check.{check_number};
-ghost use Rattle.model.specs.Model.{model_of, token_list};
+ghost use Rattle.model.specs.Model.{columns};
+ghost use Rattle.model.specs.Answers.{answer_of};
 ghost use Rattle.prepare.specs.Prepare.{PrepareOutcome, prepare_outcome};
 
 use derive::{derive_adjacency, derive_index};
-use model::{Answer, Metaspace, Step};
+use model::{Counts, Model, Refusal};
 
 // The lengths of the two rows.
 pub const ADJACENCY_LEN: usize = 1024;
@@ -52,143 +53,46 @@ pub const SECOND_TOKENS_AT: usize = 168775;
 
 pub const LONGEST_AT: usize = 169031;
 
+// A model, and the two rows that were derived of it.
+#[derive(Clone, Copy)]
+pub struct Prepared<'a> {
+    pub model: &'a Model<'a>,
+    pub adjacency: &'a [u64],
+    pub index: &'a [u32],
+}
+
 // `prepare` on a model that `model::check` accepts.
 pub fn prepare_checked(
-    piece_bytes: &[u8],
-    piece_offsets: &[u32],
-    lookup: &[u32],
-    fallback: &[u32],
-    left: &[u32],
-    right: &[u32],
-    res: &[u32],
-    rank: &[u32],
-    first_bytes: &[u8],
-    first_offsets: &[u32],
-    first_ids: &[u32],
-    first_lstrip: &[bool],
-    first_rstrip: &[bool],
-    second_bytes: &[u8],
-    second_offsets: &[u32],
-    second_ids: &[u32],
-    second_lstrip: &[bool],
-    second_rstrip: &[bool],
-    step_bytes: &[u8],
-    steps: [Step; 16],
-    step_count: usize,
-    metaspace: Metaspace,
+    model: &Model<'_>,
     adjacency: &mut [u64],
     index: &mut [u32],
-) -> Answer
-    requires { check_number (model_of piece_bytes.now piece_offsets.now lookup.now fallback.now left.now right.now res.now rank.now (token_list first_bytes.now first_offsets.now first_ids.now first_lstrip.now first_rstrip.now) (token_list second_bytes.now second_offsets.now second_ids.now second_lstrip.now second_rstrip.now) step_bytes.now steps step_count metaspace) ≡ 0 }
-    ensures { ◌≡◌ {A = PrepareOutcome} (record { answer = result; adjacency = adjacency.new; index = index.new }) (prepare_outcome (model_of piece_bytes.now piece_offsets.now lookup.now fallback.now left.now right.now res.now rank.now (token_list first_bytes.now first_offsets.now first_ids.now first_lstrip.now first_rstrip.now) (token_list second_bytes.now second_offsets.now second_ids.now second_lstrip.now second_rstrip.now) step_bytes.now steps step_count metaspace) adjacency.old index.old) }
+) -> Result<Counts, Refusal>
+    requires { check_number (columns model.now) ≡ 0 }
+    ensures { ◌≡◌ {A = PrepareOutcome} (record { answer = answer_of result; adjacency = adjacency.new; index = index.new }) (prepare_outcome (columns model.now) adjacency.old index.old) }
 {
     if adjacency.len() < ADJACENCY_LEN {
-        return Answer::refused(model::RESULT_TOO_SHORT, 0);
+        return Err(Refusal::ResultTooShort);
     }
     if index.len() < INDEX_LEN {
-        return Answer::refused(model::RESULT_TOO_SHORT, 0);
+        return Err(Refusal::ResultTooShort);
     }
-    derive_adjacency(piece_bytes, piece_offsets, adjacency);
-    derive_index(
-        piece_bytes,
-        piece_offsets,
-        lookup,
-        left,
-        right,
-        rank,
-        first_bytes,
-        first_offsets,
-        second_bytes,
-        second_offsets,
-        step_bytes,
-        steps,
-        step_count,
-        metaspace,
-        index,
-    );
-    Answer::done(ADJACENCY_LEN + INDEX_LEN, 0, 0)
+    derive_adjacency(&model.pieces, adjacency);
+    derive_index(model, index);
+    Ok(Counts {
+        written: ADJACENCY_LEN + INDEX_LEN,
+        drops: 0,
+        skips: 0,
+    })
 }
 
 // What is derived of a model once, for whoever uses it for many texts.
 pub fn prepare(
-    piece_bytes: &[u8],
-    piece_offsets: &[u32],
-    lookup: &[u32],
-    fallback: &[u32],
-    left: &[u32],
-    right: &[u32],
-    res: &[u32],
-    rank: &[u32],
-    first_bytes: &[u8],
-    first_offsets: &[u32],
-    first_ids: &[u32],
-    first_lstrip: &[bool],
-    first_rstrip: &[bool],
-    second_bytes: &[u8],
-    second_offsets: &[u32],
-    second_ids: &[u32],
-    second_lstrip: &[bool],
-    second_rstrip: &[bool],
-    step_bytes: &[u8],
-    steps: [Step; 16],
-    step_count: usize,
-    metaspace: Metaspace,
+    model: &Model<'_>,
     adjacency: &mut [u64],
     index: &mut [u32],
-) -> Answer
-    ensures { ◌≡◌ {A = PrepareOutcome} (record { answer = result; adjacency = adjacency.new; index = index.new }) (prepare_outcome (model_of piece_bytes.now piece_offsets.now lookup.now fallback.now left.now right.now res.now rank.now (token_list first_bytes.now first_offsets.now first_ids.now first_lstrip.now first_rstrip.now) (token_list second_bytes.now second_offsets.now second_ids.now second_lstrip.now second_rstrip.now) step_bytes.now steps step_count metaspace) adjacency.old index.old) }
+) -> Result<Counts, Refusal>
+    ensures { ◌≡◌ {A = PrepareOutcome} (record { answer = answer_of result; adjacency = adjacency.new; index = index.new }) (prepare_outcome (columns model.now) adjacency.old index.old) }
 {
-    let checked = model::check(
-        piece_bytes,
-        piece_offsets,
-        lookup,
-        fallback,
-        left,
-        right,
-        res,
-        rank,
-        first_bytes,
-        first_offsets,
-        first_ids,
-        first_lstrip,
-        first_rstrip,
-        second_bytes,
-        second_offsets,
-        second_ids,
-        second_lstrip,
-        second_rstrip,
-        step_bytes,
-        steps,
-        step_count,
-        metaspace,
-    );
-    if checked.number != 0 {
-        return checked;
-    }
-    prepare_checked(
-        piece_bytes,
-        piece_offsets,
-        lookup,
-        fallback,
-        left,
-        right,
-        res,
-        rank,
-        first_bytes,
-        first_offsets,
-        first_ids,
-        first_lstrip,
-        first_rstrip,
-        second_bytes,
-        second_offsets,
-        second_ids,
-        second_lstrip,
-        second_rstrip,
-        step_bytes,
-        steps,
-        step_count,
-        metaspace,
-        adjacency,
-        index,
-    )
+    model::check(model)?;
+    prepare_checked(model, adjacency, index)
 }

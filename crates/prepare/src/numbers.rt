@@ -3,8 +3,9 @@ ghost use Rattle.std.specs.Prelude.{◌≡◌};
 ghost use Rattle.prepare.specs.Numbers.{kind_number, raw_path_number};
 ghost use Rattle.prepare.specs.inner.Read.{kind_from, raw_path_from};
 
-use units::{RawPath, RawPrepend, WordSplit};
+use units::{RawPrepend, WordSplit};
 
+#[tactic(auto, unfolding(crate::specs::Numbers::kind_number))]
 pub fn kind_number(kind: WordSplit) -> u32
     ensures { result ≡ kind_number kind }
 {
@@ -16,47 +17,40 @@ pub fn kind_number(kind: WordSplit) -> u32
 }
 
 // The kind of a number; from 2 on none.
+#[tactic(auto, unfolding(crate::specs::inner::Read::kind_from))]
 pub fn kind_from(number: u32) -> WordSplit
     ensures { result ≡ kind_from number }
 {
-    if number == 0 {
-        return WordSplit::SpaceRuns;
+    match number {
+        0 => WordSplit::SpaceRuns,
+        1 => WordSplit::EveryMark,
+        _ => WordSplit::None,
     }
-    if number == 1 {
-        return WordSplit::EveryMark;
-    }
-    WordSplit::None
 }
 
-pub fn raw_path_number(path: RawPath) -> u32
+#[tactic(auto, unfolding(crate::specs::Numbers::raw_path_number))]
+pub fn raw_path_number(path: Option<RawPrepend>) -> u32
     ensures { result ≡ raw_path_number path }
 {
     match path {
-        RawPath::Absent => 0,
-        RawPath::Present(prepend) => match prepend {
-            RawPrepend::Never => 1,
-            RawPrepend::Unguarded => 2,
-            RawPrepend::GuardedAlways => 3,
-            RawPrepend::GuardedFirst => 4,
-        },
+        None => 0,
+        Some(RawPrepend::Never) => 1,
+        Some(RawPrepend::Unguarded) => 2,
+        Some(RawPrepend::GuardedAlways) => 3,
+        Some(RawPrepend::GuardedFirst) => 4,
     }
 }
 
 // The raw path of a number; above 4 there is none.
-pub fn raw_path_from(number: u32) -> RawPath
+#[tactic(auto, unfolding(crate::specs::inner::Read::raw_path_from))]
+pub fn raw_path_from(number: u32) -> Option<RawPrepend>
     ensures { result ≡ raw_path_from number }
 {
-    if number == 1 {
-        return RawPath::Present(RawPrepend::Never);
+    match number {
+        1 => Some(RawPrepend::Never),
+        2 => Some(RawPrepend::Unguarded),
+        3 => Some(RawPrepend::GuardedAlways),
+        4 => Some(RawPrepend::GuardedFirst),
+        _ => None,
     }
-    if number == 2 {
-        return RawPath::Present(RawPrepend::Unguarded);
-    }
-    if number == 3 {
-        return RawPath::Present(RawPrepend::GuardedAlways);
-    }
-    if number == 4 {
-        return RawPath::Present(RawPrepend::GuardedFirst);
-    }
-    RawPath::Absent
 }

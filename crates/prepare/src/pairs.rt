@@ -4,13 +4,14 @@ ghost use Rattle.index.specs.Index.{slot_count, second_slot_count, pair_words, s
 ghost use Rattle.prepare.specs.inner.Pairs.{word_with};
 
 use index::{named_row, pair_slot, second_slot};
-use model::clear::clear_words;
-use model::tables::{number_at, wide};
+use model::MergeRows;
+use model::clear::clear;
+use model::tables::number_at;
 
 // How many slots the first table has.
 const SLOTS: usize = crate::SECOND_PAIRS_AT - crate::PAIRS_AT;
 // What a word has more where several rows share its slot.
-const SHARED: u32 = 2147483648;
+const SHARED: u32 = index::SHARED as u32;
 
 // The word of a slot to which the row at `i` is added, behind those that it had.
 fn word_with(rank: &[u32], word: u32, i: usize) -> u32
@@ -22,53 +23,49 @@ fn word_with(rank: &[u32], word: u32, i: usize) -> u32
     if named == 0 {
         return place;
     }
-    if number_at(rank, i) < number_at(rank, wide(named - 1)) {
+    if number_at(rank, i) < number_at(rank, named as usize - 1) {
         return place + SHARED;
     }
     named + SHARED
 }
 
 // The words of the first table: a walk over the rows notes each in its slot.
-fn fill_first(left: &[u32], right: &[u32], rank: &[u32], words: &mut [u32])
-    requires left_len_bound { length left.now ≤ 1048576 }
+fn fill_first(rows: &MergeRows<'_>, words: &mut [u32])
+    requires left_len_bound { length rows.now.left.now ≤ 1048576 }
     requires words_len { length words.old ≡ slot_count }
-    ensures { words.new ≡ pair_words left.now right.now rank.now }
+    ensures { words.new ≡ pair_words rows.now.left.now rows.now.right.now rows.now.rank.now }
 {
-    clear_words(words, 0);
-    let mut i = 0;
-    while i < left.len() {
-        let slot = pair_slot(left[i], number_at(right, i));
-        words[slot] = word_with(rank, words[slot], i);
-        i += 1;
+    clear(words, 0, 0);
+    for i in 0..rows.left.len() {
+        let slot = pair_slot(rows.left[i], number_at(rows.right, i));
+        words[slot] = word_with(rows.rank, words[slot], i);
     }
 }
 
 // The words of the second table, behind those of the first: the same for the rows that the first does not name.
-fn fill_second(left: &[u32], right: &[u32], rank: &[u32], words: &mut [u32])
-    requires left_len_bound { length left.now ≤ 1048576 }
+fn fill_second(rows: &MergeRows<'_>, words: &mut [u32])
+    requires left_len_bound { length rows.now.left.now ≤ 1048576 }
     requires words_len { length words.old ≡ slot_count + second_slot_count }
-    ensures { words.new ≡ take slot_count words.old ++ second_words left.now right.now rank.now (take slot_count words.old) }
+    ensures { words.new ≡ take slot_count words.old ++ second_words rows.now.left.now rows.now.right.now rows.now.rank.now (take slot_count words.old) }
 {
-    clear_words(words, SLOTS);
-    let mut i = 0;
-    while i < left.len() {
-        let r = number_at(right, i);
-        if named_row(words[pair_slot(left[i], r)]) == i {
-            i += 1;
+    clear(words, SLOTS, 0);
+    for i in 0..rows.left.len() {
+        let l = rows.left[i];
+        let r = number_at(rows.right, i);
+        if named_row(words[pair_slot(l, r)]) == i {
             continue;
         }
-        let slot = SLOTS + second_slot(left[i], r);
-        words[slot] = word_with(rank, words[slot], i);
-        i += 1;
+        let slot = SLOTS + second_slot(l, r);
+        words[slot] = word_with(rows.rank, words[slot], i);
     }
 }
 
 // Both tables.
-pub fn fill_pairs(left: &[u32], right: &[u32], rank: &[u32], words: &mut [u32])
-    requires left_len_bound { length left.now ≤ 1048576 }
+pub fn fill_pairs(rows: &MergeRows<'_>, words: &mut [u32])
+    requires left_len_bound { length rows.now.left.now ≤ 1048576 }
     requires words_len { length words.old ≡ slot_count + second_slot_count }
-    ensures { words.new ≡ pair_tables left.now right.now rank.now }
+    ensures { words.new ≡ pair_tables rows.now.left.now rows.now.right.now rows.now.rank.now }
 {
-    fill_first(left, right, rank, &mut words[0..SLOTS]);
-    fill_second(left, right, rank, words);
+    fill_first(rows, &mut words[0..SLOTS]);
+    fill_second(rows, words);
 }

@@ -7,7 +7,8 @@ use lib.ListN.{length, get_or, take, drop, length-append, get_or-map}
 use lib.Seq.{slice, take_at, drop_at}
 use Rattle.utf8.specs.Lists.{join, neighbours_from}
 use Rattle.model.specs.Model.{TokenList, Token, token_at, contents, strings, step_string}
-use Rattle.sections.specs.Matches.{Match, end}
+use Rattle.sections.specs.declared.Match.{Match}
+use Rattle.sections.specs.Matches.{end}
 use Rattle.sections.specs.Sections.{stop_before, start_after}
 use Rattle.sections.specs.inner.Strips.{stop_at, start_at}
 use Rattle.records.specs.Records.{no_token, content_of, token_of, ends_from, columns_of, standing}

@@ -1,10 +1,10 @@
 -- Laws of the longest of the records from a row on: the rows are walked from the last.
+use Rattle.std.specs.Prelude.{Option, None, Some}
 use Prim.Native.Nat.{ℕ, suc, ◌<◌}
 use native.Mathlib.Omega.{arith}
 use mathlib.Core.Path.{◌≡◌, refl, sym, ap, ◌∙◌}
 use mathlib.Core.Bool.{Bool, true, false, cond}
 use mathlib.Core.List.{List, [], ◌∷◌, map}
-use mathlib.Core.Option.{Option, none, some}
 use lib.Dec.{leb}
 use lib.ListN.{length, get_or, drop, length-map, drop_of_length-le}
 use Rattle.utf8.specs.Lists.{filter, numbered, starts_with}
@@ -16,7 +16,6 @@ use Rattle.records.specs.Records.{no_token, content_of, columns_of, longest_of}
 use Rattle.records.specs.inner.Rows.{longer_than, longer_of}
 use Rattle.records.specs.declared.AddedToken.{AddedToken}
 use Rattle.records.specs.declared.Longest.{Longest}
-use Rattle.records.specs.declared.Longest.TheVariants.{At, Nothing}
 use Rattle.records.proofs.ColumnLaws.{columns_contents, content-at}
 
 -- One content more, in front of the others.
@@ -25,13 +24,13 @@ longer-next : (content text : List ℕ) (row : ℕ) (later : List (ℕ × List �
 unfolding longer_of
 longer-next content text row later = go (starts_with content text) (filter (λ (c : ℕ × List ℕ). starts_with c.1 text) later)
   where
-    chosen : (d : ℕ × List ℕ) (t : Bool) → cond t (At row (length content)) (At d.0 (length d.1)) ≡ longest_of (some (cond t (row, content) d))
+    chosen : (d : ℕ × List ℕ) (t : Bool) → cond t (longest_of (Some (row, content))) (longest_of (Some d)) ≡ longest_of (Some (cond t (row, content) d))
     chosen d true = refl
     chosen d false = refl
 
-    taken : (best : Option (ℕ × List ℕ)) → longer_than content row (longest_of best) ≡ longest_of (some (longer (row, content) best))
-    taken none = refl
-    taken (some d) = chosen d (leb (length d.1) (length content))
+    taken : (best : Option (ℕ × List ℕ)) → longer_than content row (longest_of best) ≡ longest_of (Some (longer (row, content) best))
+    taken None = refl
+    taken (Some d) = chosen d (leb (length d.1) (length content))
 
     go : (t : Bool) (stands : List (ℕ × List ℕ)) → cond t (longer_than content row (longest_of (longest stands))) (longest_of (longest stands)) ≡ longest_of (longest (cond t ((row, content) ∷ stands) stands))
     go true stands = taken (longest stands)
@@ -39,10 +38,10 @@ longer-next content text row later = go (starts_with content text) (filter (λ (
 
 module _ (bytes : List ℕ) (tokens : List AddedToken) (text : List ℕ) where
   -- The longest of the records from a row on.
-  abbrev pub best_from : ℕ → Longest
+  abbrev pub best_from : ℕ → Option Longest
   best_from row = longest_of (longest_from (map (content_of bytes) tokens) text row)
 
-  pub best_start : best_from (length tokens) ≡ Nothing
+  pub best_start : best_from (length tokens) ≡ None
   best_start =
       let cs = map (content_of bytes) tokens in
       rw (drop_of_length-le (numbered cs) {i = length tokens} (omega (arith, length-numbered cs, length-map tokens (content_of bytes))))

@@ -1,11 +1,11 @@
 -- The records of a list of columns give the answers of the columns.
+use Rattle.std.specs.Prelude.{Option, None, Some}
 use Prim.Native.Nat.{ℕ, ◌+◌, ◌-◌, ◌≤◌, ◌<◌}
 use native.Mathlib.Omega.{arith}
 use mathlib.Core.Path.{◌≡◌, refl, sym, ap, ◌∙◌}
 use mathlib.Core.Bool.{true, false}
 use mathlib.Core.Logic.{⊎_elim}
 use mathlib.Core.List.{List, [], map}
-use mathlib.Core.Option.{Option, none, some}
 use borrow.Author.Tests.{ltb-true, ltb-false}
 use lib.Dec.{ltb}
 use lib.ListN.{length, get_or, length-map, get_or-map}
@@ -15,7 +15,8 @@ use Rattle.utf8.proofs.Tests.{either}
 use Rattle.utf8.proofs.Places.{get_or_inside, slice_none, length-count_from, get_or_count_from}
 use Rattle.model.specs.Model.{TokenList, Token, token_at, contents, step_string}
 use Rattle.model.proofs.StringLaws.{length-strings, string_is, string_past}
-use Rattle.sections.specs.Matches.{Match, longest_at}
+use Rattle.sections.specs.declared.Match.{Match}
+use Rattle.sections.specs.Matches.{longest_at}
 use Rattle.sections.specs.inner.Seek.{row_in, row_at}
 use Rattle.records.specs.Records.{no_token, content_of, token_of, columns_of, records_of, longest_of, longest_row, standing}
 use Rattle.records.specs.inner.Rows.{standing_of}
@@ -104,5 +105,5 @@ module _ (t : TokenList) where
   same_row text = ap (λ (cs : List (List ℕ)). longest_row (longest_of (longest_at cs text))) same-contents ∙ row_of (longest_at (contents t) text)
     where
       row_of : (best : Option (ℕ × List ℕ)) → longest_row (longest_of best) ≡ row_in best
-      row_of none = refl
-      row_of (some c) = refl
+      row_of None = refl
+      row_of (Some c) = refl

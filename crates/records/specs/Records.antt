@@ -1,15 +1,12 @@
 -- A list of added tokens as records over lent bytes: the columns that it stands for, and what the answers of a search in it mean.
-use Rattle.std.specs.Prelude.{ℕ, ◌+◌, ◌-◌, false, cond, ◌||◌, not, List, [], ◌∷◌, map, length, get_or, drop}
-use Rattle.std.proofs.Math.Option.{Option, none, some}
+use Rattle.std.specs.Prelude.{ℕ, ◌+◌, ◌-◌, false, cond, ◌||◌, not, List, [], ◌∷◌, map, length, get_or, drop, Option, None, Some}
 use Rattle.utf8.specs.Lists.{is_empty, join, below, starts_with}
 use Rattle.model.specs.Model.{TokenList, token_list, Token, token_at, step_string}
-use Rattle.sections.specs.Matches.{Match}
+use Rattle.sections.specs.declared.Match.{Match}
 use Rattle.sections.specs.Sections.{stop_before, start_after}
 use Rattle.records.specs.declared.AddedToken.{AddedToken}
 use Rattle.records.specs.declared.Longest.{Longest}
-use Rattle.records.specs.declared.Longest.TheVariants.{At, Nothing}
 use Rattle.records.specs.declared.Standing.{Standing}
-use Rattle.records.specs.declared.Standing.TheVariants.{Here, Absent}
 
 -- What stands past the end of a list.
 abbrev pub no_token : AddedToken
@@ -45,19 +42,19 @@ records_of t =
     }) (below (length t.offsets - 1))
 
 -- The longest content at the head of a text, as an answer.
-abbrev pub longest_of : Option (ℕ × List ℕ) → Longest
-longest_of none = Nothing
-longest_of (some c) = At c.0 (length c.1)
+abbrev pub longest_of : Option (ℕ × List ℕ) → Option Longest
+longest_of None = None
+longest_of (Some c) = Some (record { row = c.0; len = length c.1 })
 
 -- The row of such an answer.
-abbrev pub longest_row : Longest → Option ℕ
-longest_row Nothing = none
-longest_row (At row len) = some row
+abbrev pub longest_row : Option Longest → Option ℕ
+longest_row None = None
+longest_row (Some best) = Some best.row
 
 -- What the token of a match does with the section that begins at start, if its content stands at the match's place. An empty content
 -- stands nowhere, and so a row past the end of the list does not either.
-unfoldable pub standing : TokenList → List ℕ → ℕ → Match → Standing
+unfoldable pub standing : TokenList → List ℕ → ℕ → Match → Option Standing
 standing t text start match =
     let token = token_at t match.row in
-    cond (is_empty token.content || not (starts_with token.content (drop match.place text))) Absent
-    (Here (stop_before t text start match) (start_after t text match) token.id)
+    cond (is_empty token.content || not (starts_with token.content (drop match.place text))) None
+    (Some (record { stop = stop_before t text start match; next = start_after t text match; id = token.id }))

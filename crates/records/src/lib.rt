@@ -18,18 +18,25 @@ pub struct AddedToken {
     pub rstrip: bool,
 }
 
-// The longest token at the head of a text.
-#[derive(Clone, Copy)]
-pub enum Longest {
-    // Its row, and how many bytes its content has.
-    At { row: usize, len: usize },
-    Nothing,
+// What stands past the end of a list.
+pub const NO_TOKEN: AddedToken = AddedToken {
+    content: Span { place: 0, len: 0 },
+    id: 0,
+    lstrip: false,
+    rstrip: false,
+};
+
+// The longest token at the head of a text: its row, and how many bytes its content has.
+#[derive(Clone, Copy, PartialEq, Eq, Debug)]
+pub struct Longest {
+    pub row: usize,
+    pub len: usize,
 }
 
-// What a token does at a place of a text.
-#[derive(Clone, Copy)]
-pub enum Standing {
-    // It stands there: the section before it stops at `stop`, the next begins at `next`.
-    Here { stop: usize, next: usize, id: u32 },
-    Absent,
+// What a token that stands at a place does: the section before it stops at `stop`, the next begins at `next`.
+#[derive(Clone, Copy, PartialEq, Eq, Debug)]
+pub struct Standing {
+    pub stop: usize,
+    pub next: usize,
+    pub id: u32,
 }

@@ -1,169 +1,61 @@
-// The calls themselves, by the number that the sample gives each.
-use model::{Answer, Metaspace, Step};
+// The calls, by the number that the sample gives each, and what one is lent.
+use model::{Answer, Model};
 
-pub(crate) const ENCODE: u32 = 1;
-
-pub(crate) const FRAGMENTS: u32 = 2;
-
-pub(crate) const DECODE: u32 = 3;
-
-pub(crate) const NORMALISE: u32 = 4;
-
-// What a call is given besides the model and its input: encode's `continuation` or normalise's `first`, and fragments' target.
 #[derive(Clone, Copy)]
-pub(crate) struct Given {
-    pub flag: bool,
-    pub target: usize,
+pub(crate) enum Call {
+    Encode,
+    Fragments,
+    Decode,
+    Normalise,
 }
 
-// Any other number than the first three is normalise's.
+// The number of the last call.
+pub(crate) const LAST: usize = 4;
+
+impl Call {
+    pub(crate) fn of(number: u32) -> Option<Call> {
+        match number {
+            1 => Some(Call::Encode),
+            2 => Some(Call::Fragments),
+            3 => Some(Call::Decode),
+            4 => Some(Call::Normalise),
+            _ => None,
+        }
+    }
+
+    pub(crate) fn name(self) -> &'static str {
+        match self {
+            Call::Encode => "encode",
+            Call::Fragments => "fragments",
+            Call::Decode => "decode",
+            Call::Normalise => "normalise",
+        }
+    }
+}
+
+// What a call is given besides the model: encode's `continuation` or normalise's `first`, fragments' target, and its input.
+#[derive(Clone, Copy)]
+pub(crate) struct Given<'a> {
+    pub flag: bool,
+    pub target: usize,
+    pub text: &'a [u8],
+    pub ids: &'a [u32],
+}
+
 pub(crate) fn run(
-    pieces: &[u8],
-    offsets: &[u32],
-    lookup: &[u32],
-    fallback: &[u32],
-    left: &[u32],
-    right: &[u32],
-    res: &[u32],
-    rank: &[u32],
-    first: &[u8],
-    first_offsets: &[u32],
-    first_ids: &[u32],
-    first_lstrip: &[bool],
-    first_rstrip: &[bool],
-    second: &[u8],
-    second_offsets: &[u32],
-    second_ids: &[u32],
-    second_lstrip: &[bool],
-    second_rstrip: &[bool],
-    step_bytes: &[u8],
-    steps: [Step; 16],
-    step_count: usize,
-    metaspace: Metaspace,
-    call: u32,
-    given: Given,
-    text: &[u8],
-    ids: &[u32],
+    call: Call,
+    model: &Model<'_>,
+    given: Given<'_>,
     cells: &mut [u32],
     bytes: &mut [u8],
     a: &mut [u8],
     b: &mut [u8],
 ) -> Answer {
-    if call == ENCODE {
-        return encode::encode(
-            pieces,
-            offsets,
-            lookup,
-            fallback,
-            left,
-            right,
-            res,
-            rank,
-            first,
-            first_offsets,
-            first_ids,
-            first_lstrip,
-            first_rstrip,
-            second,
-            second_offsets,
-            second_ids,
-            second_lstrip,
-            second_rstrip,
-            step_bytes,
-            steps,
-            step_count,
-            metaspace,
-            text,
-            given.flag,
-            cells,
-            a,
-            b,
-        );
-    }
-    if call == FRAGMENTS {
-        return fragments::fragments(
-            pieces,
-            offsets,
-            lookup,
-            fallback,
-            left,
-            right,
-            res,
-            rank,
-            first,
-            first_offsets,
-            first_ids,
-            first_lstrip,
-            first_rstrip,
-            second,
-            second_offsets,
-            second_ids,
-            second_lstrip,
-            second_rstrip,
-            step_bytes,
-            steps,
-            step_count,
-            metaspace,
-            text,
-            given.target,
-            cells,
-        );
-    }
-    if call == DECODE {
-        return decode::decode(
-            pieces,
-            offsets,
-            lookup,
-            fallback,
-            left,
-            right,
-            res,
-            rank,
-            first,
-            first_offsets,
-            first_ids,
-            first_lstrip,
-            first_rstrip,
-            second,
-            second_offsets,
-            second_ids,
-            second_lstrip,
-            second_rstrip,
-            step_bytes,
-            steps,
-            step_count,
-            metaspace,
-            ids,
-            bytes,
-        );
-    }
-    normalise::normalise(
-        pieces,
-        offsets,
-        lookup,
-        fallback,
-        left,
-        right,
-        res,
-        rank,
-        first,
-        first_offsets,
-        first_ids,
-        first_lstrip,
-        first_rstrip,
-        second,
-        second_offsets,
-        second_ids,
-        second_lstrip,
-        second_rstrip,
-        step_bytes,
-        steps,
-        step_count,
-        metaspace,
-        text,
-        given.flag,
-        bytes,
-        a,
-        b,
-    )
+    let outcome = match call {
+        Call::Encode => encode::encode(model, given.text, given.flag, cells, a, b),
+        Call::Fragments => fragments::fragments(model, given.text, given.target, cells),
+        Call::Decode => decode::decode(model, given.ids, bytes),
+        Call::Normalise => normalise::normalise(model, given.text, given.flag, bytes, a, b),
+    };
+    Answer::from(outcome)
 }

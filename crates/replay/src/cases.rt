@@ -1,15 +1,14 @@
 // One call of the sample, run and compared.
-use crate::calls::Given;
-use crate::compare::{Difference, Part, differs, first_of};
-use crate::sample::{as_place, byte_part, number_at, number_part, place_at};
+ghost use Rattle.std.specs.Prelude.{◌≤◌, IfOk};
+
+use crate::calls::{Call, Given, LAST};
+use crate::compare::{Buffer, Difference, Part};
+use crate::sample::{Sample, number_at, place_at};
 use crate::{calls, columns, compare};
-use model::Answer;
 
 // Where a call's row has what it is given, the five numbers of the answer, the room of each scratch buffer and what stands in each
 // of its bytes afterwards, then the starts and ends of its numbers (ids, and the result of encode and fragments) and of its bytes (text, and
 // the result of normalise and decode).
-const CALL: usize = 0;
-
 const FLAG: usize = 1;
 
 const TARGET: usize = 2;
@@ -38,136 +37,64 @@ const SCRATCH_BEFORE: u8 = 5;
 // The longest buffers that are lent.
 const ROOM: usize = 512;
 
-fn given(row: &[u32]) -> Given {
+fn given<'a>(sample: &Sample<'a>, row: &[u32]) -> Given<'a> {
     let low = place_at(row, TARGET);
     let high = place_at(row, TARGET + 1);
     Given {
         flag: number_at(row, FLAG) != 0,
         target: high << 32 | low,
+        text: sample.bytes(row, TEXT),
+        ids: sample.numbers(row, IDS),
     }
 }
 
-fn compare_all(
-    answer: Answer,
-    row: &[u32],
-    expected_cells: &[u32],
-    expected_bytes: &[u8],
-    cells: &[u32],
-    bytes: &[u8],
-    a: &[u8],
-    b: &[u8],
-) -> Difference {
-    let in_answer = compare::answers(answer, row, ANSWER);
-    let in_cells = compare::cells(cells, expected_cells);
-    let in_bytes = compare::bytes(bytes, expected_bytes);
-    let in_a = compare::scratch(Part::FirstScratch, a, number_at(row, A + 1));
-    let in_b = compare::scratch(Part::SecondScratch, b, number_at(row, B + 1));
-    first_of(
-        in_answer,
-        first_of(in_cells, first_of(in_bytes, first_of(in_a, in_b))),
-    )
+fn room(wanted: usize) -> Result<usize, Difference>
+    ensures { IfOk result (λ n. n ≤ 512) }
+{
+    if ROOM < wanted {
+        return Err(Difference {
+            part: Part::Room,
+            found: ROOM,
+            expected: wanted,
+        });
+    }
+    Ok(wanted)
 }
 
-fn run_and_compare(
-    all_bytes: &[u8],
-    all_numbers: &[u32],
-    all_flags: &[bool],
+// Makes the call of `row` on the model of `model`, and tells what differs.
+pub(crate) fn run(
+    sample: &Sample<'_>,
     model: &[u32],
+    call: Option<Call>,
     row: &[u32],
-    cells: &mut [u32],
-    bytes: &mut [u8],
-    a: &mut [u8],
-    b: &mut [u8],
-) -> Difference {
-    let answer = columns::run(
-        all_bytes,
-        all_numbers,
-        all_flags,
-        model,
-        number_at(row, CALL),
-        given(row),
-        byte_part(all_bytes, row, TEXT),
-        number_part(all_numbers, row, IDS),
-        cells,
-        bytes,
-        a,
-        b,
-    );
-    compare_all(
-        answer,
-        row,
-        number_part(all_numbers, row, CELLS),
-        byte_part(all_bytes, row, BYTES),
-        cells,
-        bytes,
-        a,
-        b,
-    )
-}
-
-fn with_rooms(
-    all_bytes: &[u8],
-    all_numbers: &[u32],
-    all_flags: &[bool],
-    model: &[u32],
-    row: &[u32],
-    cells_room: usize,
-    bytes_room: usize,
-    a_room: usize,
-    b_room: usize,
-) -> Difference {
-    if ROOM < cells_room {
-        return differs(Part::Room, 0, ROOM, cells_room);
-    }
-    if ROOM < bytes_room {
-        return differs(Part::Room, 0, ROOM, bytes_room);
-    }
-    if ROOM < a_room {
-        return differs(Part::Room, 0, ROOM, a_room);
-    }
-    if ROOM < b_room {
-        return differs(Part::Room, 0, ROOM, b_room);
-    }
+) -> Result<(), Difference> {
+    let Some(call) = call else {
+        return Err(Difference {
+            part: Part::Call,
+            found: LAST,
+            expected: place_at(row, 0),
+        });
+    };
+    let expected_cells = sample.numbers(row, CELLS);
+    let expected_bytes = sample.bytes(row, BYTES);
+    let cells_room = room(expected_cells.len())?;
+    let bytes_room = room(expected_bytes.len())?;
+    let a_room = room(place_at(row, A))?;
+    let b_room = room(place_at(row, B))?;
     let mut cells = [RESULT_BEFORE; ROOM];
     let mut bytes = [BYTE_BEFORE; ROOM];
     let mut a = [SCRATCH_BEFORE; ROOM];
     let mut b = [SCRATCH_BEFORE; ROOM];
-    run_and_compare(
-        all_bytes,
-        all_numbers,
-        all_flags,
-        model,
-        row,
-        &mut cells[..cells_room],
-        &mut bytes[..bytes_room],
-        &mut a[..a_room],
-        &mut b[..b_room],
-    )
-}
-
-// What differs in the call of `row`, on the model of the row `model`.
-pub(crate) fn run(
-    bytes: &[u8],
-    numbers: &[u32],
-    flags: &[bool],
-    model: &[u32],
-    row: &[u32],
-) -> Difference {
-    let call = number_at(row, CALL);
-    if calls::NORMALISE < call {
-        return differs(Part::Call, 0, as_place(calls::NORMALISE), as_place(call));
-    }
-    let expected_cells = number_part(numbers, row, CELLS);
-    let expected_bytes = byte_part(bytes, row, BYTES);
-    with_rooms(
-        bytes,
-        numbers,
-        flags,
-        model,
-        row,
-        expected_cells.len(),
-        expected_bytes.len(),
-        place_at(row, A),
-        place_at(row, B),
-    )
+    let cells = &mut cells[..cells_room];
+    let bytes = &mut bytes[..bytes_room];
+    let a = &mut a[..a_room];
+    let b = &mut b[..b_room];
+    let fallback = columns::fallback(sample, model);
+    let lent = columns::model(sample, model, &fallback);
+    let answer = calls::run(call, &lent, given(sample, row), cells, bytes, a, b);
+    compare::answers(answer, row, ANSWER)?;
+    compare::results(cells, expected_cells)?;
+    compare::results(bytes, expected_bytes)?;
+    compare::scratch(Buffer::FirstScratch, a, place_at(row, A + 1))?;
+    compare::scratch(Buffer::SecondScratch, b, place_at(row, B + 1))
 }

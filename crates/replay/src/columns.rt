@@ -1,10 +1,10 @@
-// A model's row of the sample, as the columns that a call takes.
+// A model's row of the sample, as the model that a call takes.
 ghost use Rattle.std.specs.Prelude.{◌<◌};
 
-use crate::calls;
-use crate::calls::Given;
-use crate::sample::{byte_part, flag_part, number_at, number_part};
-use model::{Answer, Metaspace, PrependScheme, Span, Step};
+use crate::sample::{Sample, number_at};
+use model::{
+    AddedTokens, MergeRows, Metaspace, Model, PrependScheme, Span, Step, StepList, Strings,
+};
 
 // Where the row has the starts and ends of the model's numbers, bytes and flags, then its metaspace and whether that splits.
 const NUMBERS: usize = 1;
@@ -17,36 +17,25 @@ const METASPACE: usize = 25;
 
 const SPLIT: usize = 26;
 
-// A byte without a piece.
-const NONE: u32 = 4294967295;
-
 // Numbers a step: its kind, and what the kind takes.
 const STEP: usize = 5;
 
-const STEP_LIMIT: usize = 16;
-
-fn index_of(byte: u8) -> usize
-    ensures { result < 256 }
-{
-    byte as usize
-}
-
-// The whole row from the bytes that have a piece.
-fn fallback_of(bytes: &[u8], ids: &[u32]) -> [u32; 256] {
-    let mut fallback = [NONE; 256];
-    let mut i = 0;
-    while i < bytes.len() {
-        let at = index_of(bytes[i]);
-        fallback[at] = number_at(ids, i);
-        i += 1;
+// The whole fallback row, from the bytes that have a piece.
+pub(crate) fn fallback(sample: &Sample<'_>, row: &[u32]) -> [u32; 256] {
+    let ids = sample.numbers(row, NUMBERS + 2);
+    let mut fallback = [u32::MAX; 256];
+    for (i, byte) in sample.bytes(row, BYTES + 1).iter().enumerate() {
+        fallback[usize::from(*byte)] = number_at(ids, i);
     }
     fallback
 }
 
-fn span_at(numbers: &[u32], place: usize, len: usize) -> Span {
+fn span_at(numbers: &[u32], at: usize) -> Span
+    requires { at < 1024 }
+{
     Span {
-        place: number_at(numbers, place),
-        len: number_at(numbers, len),
+        place: number_at(numbers, at),
+        len: number_at(numbers, at + 1),
     }
 }
 
@@ -54,112 +43,87 @@ fn step_at(numbers: &[u32], i: usize) -> Step
     requires { i < 16 }
 {
     let at = i * STEP;
-    let kind = number_at(numbers, at);
-    let one = span_at(numbers, at + 1, at + 2);
-    if kind == 0 {
-        return Step::Prepend(one);
-    }
-    if kind == 1 {
-        return Step::Replace {
+    let one = span_at(numbers, at + 1);
+    match number_at(numbers, at) {
+        0 => Step::Prepend(one),
+        1 => Step::Replace {
             pattern: one,
-            content: span_at(numbers, at + 3, at + 4),
-        };
-    }
-    if kind == 2 {
-        return Step::CollapseSpaces { content: one };
-    }
-    Step::Strip {
-        left: one.place != 0,
-        right: one.len != 0,
+            content: span_at(numbers, at + 3),
+        },
+        2 => Step::CollapseSpaces { content: one },
+        _ => Step::Strip {
+            left: one.place != 0,
+            right: one.len != 0,
+        },
     }
 }
 
-fn steps_of(numbers: &[u32]) -> [Step; 16] {
+fn steps<'a, 'n>(bytes: &'a [u8], numbers: &'n [u32]) -> StepList<'a> {
     let nothing = Step::Strip {
         left: false,
         right: false,
     };
-    let mut steps = [nothing; 16];
-    let mut i = 0;
-    while i < STEP_LIMIT {
-        steps[i] = step_at(numbers, i);
-        i += 1;
+    let mut list = [nothing; 16];
+    for i in 0..16 {
+        list[i] = step_at(numbers, i);
     }
-    steps
-}
-
-fn metaspace_of(scheme: u32, split: bool) -> Metaspace {
-    if scheme == 0 {
-        return Metaspace::Absent;
-    }
-    if scheme == 1 {
-        return Metaspace::Present {
-            prepend: PrependScheme::Never,
-            split,
-        };
-    }
-    if scheme == 2 {
-        return Metaspace::Present {
-            prepend: PrependScheme::Always,
-            split,
-        };
-    }
-    Metaspace::Present {
-        prepend: PrependScheme::First,
-        split,
-    }
-}
-
-pub(crate) fn run(
-    all_bytes: &[u8],
-    all_numbers: &[u32],
-    all_flags: &[bool],
-    model: &[u32],
-    call: u32,
-    given: Given,
-    text: &[u8],
-    ids: &[u32],
-    cells: &mut [u32],
-    bytes: &mut [u8],
-    a: &mut [u8],
-    b: &mut [u8],
-) -> Answer {
-    let fallback = fallback_of(
-        byte_part(all_bytes, model, BYTES + 1),
-        number_part(all_numbers, model, NUMBERS + 2),
-    );
-    let steps = number_part(all_numbers, model, NUMBERS + 11);
-    let split = number_at(model, SPLIT) != 0;
-    calls::run(
-        byte_part(all_bytes, model, BYTES),
-        number_part(all_numbers, model, NUMBERS),
-        number_part(all_numbers, model, NUMBERS + 1),
-        &fallback,
-        number_part(all_numbers, model, NUMBERS + 3),
-        number_part(all_numbers, model, NUMBERS + 4),
-        number_part(all_numbers, model, NUMBERS + 5),
-        number_part(all_numbers, model, NUMBERS + 6),
-        byte_part(all_bytes, model, BYTES + 2),
-        number_part(all_numbers, model, NUMBERS + 7),
-        number_part(all_numbers, model, NUMBERS + 8),
-        flag_part(all_flags, model, FLAGS),
-        flag_part(all_flags, model, FLAGS + 1),
-        byte_part(all_bytes, model, BYTES + 3),
-        number_part(all_numbers, model, NUMBERS + 9),
-        number_part(all_numbers, model, NUMBERS + 10),
-        flag_part(all_flags, model, FLAGS + 2),
-        flag_part(all_flags, model, FLAGS + 3),
-        byte_part(all_bytes, model, BYTES + 4),
-        steps_of(steps),
-        steps.len() / STEP,
-        metaspace_of(number_at(model, METASPACE), split),
-        call,
-        given,
-        text,
-        ids,
-        cells,
+    StepList {
         bytes,
-        a,
-        b,
-    )
+        list,
+        count: numbers.len() / STEP,
+    }
+}
+
+fn metaspace(scheme: u32, split: bool) -> Option<Metaspace> {
+    let prepend = match scheme {
+        0 => return None,
+        1 => PrependScheme::Never,
+        2 => PrependScheme::Always,
+        _ => PrependScheme::First,
+    };
+    Some(Metaspace { prepend, split })
+}
+
+pub(crate) fn model<'a, 's: 'a>(
+    sample: &Sample<'s>,
+    row: &[u32],
+    fallback: &'a [u32],
+) -> Model<'a> {
+    Model {
+        pieces: Strings {
+            bytes: sample.bytes(row, BYTES),
+            offsets: sample.numbers(row, NUMBERS),
+        },
+        lookup: sample.numbers(row, NUMBERS + 1),
+        fallback,
+        rows: MergeRows {
+            left: sample.numbers(row, NUMBERS + 3),
+            right: sample.numbers(row, NUMBERS + 4),
+            result: sample.numbers(row, NUMBERS + 5),
+            rank: sample.numbers(row, NUMBERS + 6),
+        },
+        first: AddedTokens {
+            contents: Strings {
+                bytes: sample.bytes(row, BYTES + 2),
+                offsets: sample.numbers(row, NUMBERS + 7),
+            },
+            ids: sample.numbers(row, NUMBERS + 8),
+            lstrip: sample.flags(row, FLAGS),
+            rstrip: sample.flags(row, FLAGS + 1),
+        },
+        second: AddedTokens {
+            contents: Strings {
+                bytes: sample.bytes(row, BYTES + 3),
+                offsets: sample.numbers(row, NUMBERS + 9),
+            },
+            ids: sample.numbers(row, NUMBERS + 10),
+            lstrip: sample.flags(row, FLAGS + 2),
+            rstrip: sample.flags(row, FLAGS + 3),
+        },
+        steps: steps(
+            sample.bytes(row, BYTES + 4),
+            sample.numbers(row, NUMBERS + 11),
+        ),
+        metaspace: metaspace(number_at(row, METASPACE), number_at(row, SPLIT) != 0),
+    }
 }

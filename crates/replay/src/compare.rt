@@ -1,145 +1,105 @@
 // What a call answered and left in its buffers, against what the sample says.
 ghost use Rattle.std.specs.Prelude.{◌<◌};
 
-use crate::sample::{as_place, byte_at, number_at, place_at};
+use crate::sample::place_at;
 use model::Answer;
+use std::fmt;
+use std::fmt::{Display, Formatter};
+
+#[derive(Clone, Copy)]
+pub(crate) enum Buffer {
+    Result,
+    FirstScratch,
+    SecondScratch,
+}
 
 // What differs.
 #[derive(Clone, Copy)]
 pub(crate) enum Part {
-    Nothing,
     Number,
     Place,
     Written,
     Drops,
     Skips,
-    Result,
-    FirstScratch,
-    SecondScratch,
+    // A cell of a buffer.
+    Cell(Buffer, usize),
     // The case is none that can be run: it asks for too much room, or for a call that is not known.
     Room,
     Call,
 }
 
+impl Display for Buffer {
+    fn fmt<W: fmt::Write>(&self, f: &mut Formatter<W>) -> fmt::Result {
+        match self {
+            Buffer::Result => f.write_str("the result"),
+            Buffer::FirstScratch => f.write_str("the first scratch"),
+            Buffer::SecondScratch => f.write_str("the second scratch"),
+        }
+    }
+}
+
+impl Display for Part {
+    fn fmt<W: fmt::Write>(&self, f: &mut Formatter<W>) -> fmt::Result {
+        match self {
+            Part::Number => f.write_str("the answer's number"),
+            Part::Place => f.write_str("the answer's place"),
+            Part::Written => f.write_str("the answer's written"),
+            Part::Drops => f.write_str("the answer's drops"),
+            Part::Skips => f.write_str("the answer's skips"),
+            Part::Cell(buffer, at) => write!(f, "{buffer} at {at}"),
+            Part::Room => f.write_str("the longest buffer"),
+            Part::Call => f.write_str("the last call's number"),
+        }
+    }
+}
+
 #[derive(Clone, Copy)]
 pub(crate) struct Difference {
     pub part: Part,
-    // Which cell, where the part is a buffer.
-    pub at: usize,
     pub found: usize,
     pub expected: usize,
 }
 
-pub(crate) fn differs(part: Part, at: usize, found: usize, expected: usize) -> Difference {
+fn same(part: Part, found: usize, expected: usize) -> Result<(), Difference> {
     if found == expected {
-        return Difference {
-            part: Part::Nothing,
-            at: 0,
-            found,
-            expected,
-        };
+        return Ok(());
     }
-    Difference {
+    Err(Difference {
         part,
-        at,
         found,
         expected,
-    }
-}
-
-pub(crate) fn is_nothing(part: Part) -> bool {
-    match part {
-        Part::Nothing => true,
-        _ => false,
-    }
-}
-
-// The first of two that is one.
-pub(crate) fn first_of(one: Difference, other: Difference) -> Difference {
-    let part = one.part;
-    if is_nothing(part) {
-        return other;
-    }
-    one
+    })
 }
 
 // The five numbers stand in `row` from `at` on.
-pub(crate) fn answers(answer: Answer, row: &[u32], at: usize) -> Difference
+pub(crate) fn answers(answer: Answer, row: &[u32], at: usize) -> Result<(), Difference>
     requires { at < 1024 }
 {
-    let number = differs(Part::Number, 0, as_place(answer.number), place_at(row, at));
-    let place = differs(Part::Place, 0, answer.place, place_at(row, at + 1));
-    let written = differs(Part::Written, 0, answer.written, place_at(row, at + 2));
-    let drops = differs(Part::Drops, 0, answer.drops, place_at(row, at + 3));
-    let skips = differs(Part::Skips, 0, answer.skips, place_at(row, at + 4));
-    first_of(
-        number,
-        first_of(place, first_of(written, first_of(drops, skips))),
-    )
+    same(Part::Number, answer.number as usize, place_at(row, at))?;
+    same(Part::Place, answer.place, place_at(row, at + 1))?;
+    same(Part::Written, answer.written, place_at(row, at + 2))?;
+    same(Part::Drops, answer.drops, place_at(row, at + 3))?;
+    same(Part::Skips, answer.skips, place_at(row, at + 4))
 }
 
-// How many cells of a buffer agree, from the front.
-
-fn alike_cells(found: &[u32], expected: &[u32]) -> usize {
-    let mut i = 0;
-    while i < found.len() {
-        if found[i] != number_at(expected, i) {
-            return i;
-        }
-        i += 1;
+// A result is as long as what is expected of it.
+pub(crate) fn results<T: Copy + Into<u32>>(found: &[T], expected: &[T]) -> Result<(), Difference> {
+    for (at, (found, expected)) in found.iter().zip(expected).enumerate() {
+        let found: u32 = (*found).into();
+        let expected: u32 = (*expected).into();
+        same(
+            Part::Cell(Buffer::Result, at),
+            found as usize,
+            expected as usize,
+        )?;
     }
-    i
+    Ok(())
 }
 
-fn alike_bytes(found: &[u8], expected: &[u8]) -> usize {
-    let mut i = 0;
-    while i < found.len() {
-        if byte_at(found, i) != byte_at(expected, i) {
-            return i;
-        }
-        i += 1;
+// Each byte is the one that is expected.
+pub(crate) fn scratch(buffer: Buffer, found: &[u8], expected: usize) -> Result<(), Difference> {
+    for (at, byte) in found.iter().enumerate() {
+        same(Part::Cell(buffer, at), usize::from(*byte), expected)?;
     }
-    i
-}
-
-// How many bytes, from the front, are `expected`.
-fn filled_bytes(found: &[u8], expected: u32) -> usize {
-    let mut i = 0;
-    while i < found.len() {
-        if byte_at(found, i) != expected {
-            return i;
-        }
-        i += 1;
-    }
-    i
-}
-
-// Past their end both buffers read as 0, so that those which agree to the end do not differ.
-
-pub(crate) fn cells(found: &[u32], expected: &[u32]) -> Difference {
-    let at = alike_cells(found, expected);
-    differs(
-        Part::Result,
-        at,
-        place_at(found, at),
-        place_at(expected, at),
-    )
-}
-
-pub(crate) fn bytes(found: &[u8], expected: &[u8]) -> Difference {
-    let at = alike_bytes(found, expected);
-    differs(
-        Part::Result,
-        at,
-        as_place(byte_at(found, at)),
-        as_place(byte_at(expected, at)),
-    )
-}
-
-pub(crate) fn scratch(part: Part, found: &[u8], expected: u32) -> Difference {
-    let at = filled_bytes(found, expected);
-    if at < found.len() {
-        return differs(part, at, as_place(byte_at(found, at)), as_place(expected));
-    }
-    differs(Part::Nothing, 0, 0, 0)
+    Ok(())
 }

@@ -26,23 +26,11 @@ use std::io;
 use std::io::Read;
 
 // The longest sample, in bytes, numbers and flags.
-fn input_buffer() -> [u8; 524288]
-    ensures { 524288 ≡ length result }
-{
-    [0; 524288]
-}
+const BYTES: usize = 524288;
 
-fn number_buffer() -> [u32; 262144]
-    ensures { 262144 ≡ length result }
-{
-    [0; 262144]
-}
+const NUMBERS: usize = 262144;
 
-fn flag_buffer() -> [bool; 65536]
-    ensures { 65536 ≡ length result }
-{
-    [false; 65536]
-}
+const FLAGS: usize = 65536;
 
 // Reads until `buffer` is full or there is no more, and answers how many bytes stand in it.
 fn read_full(from: &mut impl Read, buffer: &mut [u8]) -> io::Result<usize>
@@ -59,10 +47,17 @@ fn read_full(from: &mut impl Read, buffer: &mut [u8]) -> io::Result<usize>
     Ok(done)
 }
 
+// Callers know its length by this contract: they would compute a long list for it.
+fn buffer<T: Copy, const N: usize>(blank: T) -> [T; N]
+    ensures { N ≡ length result }
+{
+    [blank; N]
+}
+
 fn main(rt: HostRuntime) -> io::Result<()> {
-    let mut input = input_buffer();
-    let mut numbers = number_buffer();
-    let mut flags = flag_buffer();
+    let mut input: [u8; BYTES] = buffer(0);
+    let mut numbers: [u32; NUMBERS] = buffer(0);
+    let mut flags: [bool; FLAGS] = buffer(false);
     let size = read_full(&mut rt.stdin(), &mut input)?;
     head::replay(&rt, &input[..size], &mut numbers, &mut flags)
 }

@@ -1,11 +1,11 @@
 -- Following a walk afresh gives the parts of a normalized section and the tokens between them.
+use Rattle.std.specs.Prelude.{Option, None, Some}
 use Prim.Native.Nat.{ℕ, zero, suc, ◌+◌, ◌-◌, ◌≤◌}
 use native.Mathlib.Omega.{arith}
 use native.Mathlib.Nat.{add-zero, add-suc}
 use mathlib.Core.Path.{◌≡◌, refl, sym, ap, ◌∙◌}
 use mathlib.Core.Bool.{Bool, true, false, cond}
 use mathlib.Core.List.{List, [], ◌∷◌, ◌++◌}
-use mathlib.Core.Option.{Option, none, some}
 use borrow.Author.Tests.{ltb-true, ltb-false, lt-ltb, le-ltb}
 use lib.Dec.{ltb, eqb-suc-zero}
 use lib.ListN.{length, take, drop, length-take, length-drop, drop_of_length-le}
@@ -17,7 +17,8 @@ use Rattle.utf8.proofs.Places.{slice_of}
 use Rattle.utf8.proofs.Trim.{trim_end_trimmed}
 use Rattle.model.specs.Model.{TokenList, contents, token_at}
 use Rattle.model.specs.Check.{bad_token}
-use Rattle.sections.specs.Matches.{Match, end, longest_at, match_or, first_match}
+use Rattle.sections.specs.declared.Match.{Match}
+use Rattle.sections.specs.Matches.{end, longest_at, match_or, first_match}
 use Rattle.sections.specs.Sections.{Item, token, plain, white_length, stop_before, start_after, is_swallowed}
 use Rattle.sections.specs.SecondList.{NormalPart, normal_part_of, normal_parts_around, normal_parts_for, normal_parts}
 use Rattle.sections.specs.inner.Seek.{match_by}
@@ -55,8 +56,8 @@ abbrev moved : ℕ → Match → Match
 moved n match = record { place = n + match.place; row = match.row }
 
 abbrev moved_if : ℕ → Option Match → Option Match
-moved_if n none = none
-moved_if n (some match) = some (moved n match)
+moved_if n None = None
+moved_if n (Some match) = Some (moved n match)
 
 moved_match : (contents : List (List ℕ)) (n place : ℕ) (text : List ℕ) → first_match contents (n + place) text ≡ moved_if n (first_match contents place text)
 moved_match contents n place [] = refl
@@ -65,8 +66,8 @@ moved_match contents n place (b ∷ text) =
     ∙ go (longest_at contents (b ∷ text)) (first_match contents (suc place) text)
   where
     go : (l : Option (ℕ × List ℕ)) (o : Option Match) → match_or (n + place) l (moved_if n o) ≡ moved_if n (match_or place l o)
-    go none o = refl
-    go (some c) o = refl
+    go None o = refl
+    go (Some c) o = refl
 
 rest_match : (contents : List (List ℕ)) (n : ℕ) (text : List ℕ) → first_match contents n text ≡ moved_if n (first_match contents 0 text)
 rest_match contents n text = ap (λ (p : ℕ). first_match contents p text) (sym (add-zero n)) ∙ moved_match contents n 0 text
@@ -157,12 +158,12 @@ module _ (t : TokenList) (begins : List ℕ) (sound : Sound begins (contents t))
         → normal_parts_around t (normal_parts_for turns t false) opening rest o
         ≡ parts_given t text (item_at t.ids t.lstrip t.rstrip true text start opening (taken_or (contents t) start turns (taken_for turns begins (contents t) text start) (moved_if start o)))
     unfolding parts_left token_item token_at is_swallowed end
-    given none e = last-part text start opening ∙ go (ltb start (length text))
+    given None e = last-part text start opening ∙ go (ltb start (length text))
       where
         go : (b : Bool) → cond b (part_item (slice start (length text) text) opening ∷ []) [] ≡ parts_given t text (cond b (Plain start (length text) opening Done) Finished)
         go true = refl
         go false = refl
-    given (some m) e =
+    given (Some m) e =
         rw (le-ltb (start + m.place) start (omega arith))
         (rw (stop_moved t text start m, part_by_places text start opening k inside, behind) (go (ltb start (start + k))))
       where

@@ -1,25 +1,22 @@
 -- Laws of the search for tokens: the bytes that contents begin with, the longest content at a place, the leftmost place that has one.
+use Rattle.std.specs.Prelude.{Option, None, Some}
 use Prim.Native.Nat.{ℕ, suc, ◌+◌, ◌-◌, ◌≤◌, ◌<◌}
 use native.Mathlib.Omega.{arith}
 use native.Mathlib.Numerals.{add-one}
 use mathlib.Core.Path.{◌≡◌, refl, sym, ap, ◌∙◌}
 use mathlib.Core.Bool.{Bool, true, false, not, cond, ◌||◌}
 use mathlib.Core.Logic.{⊎_elim}
-use mathlib.Core.List.{List, [], ◌∷◌, ◌++◌, map, append-nil}
-use mathlib.Core.Option.{Option, none, some}
+use mathlib.Core.List.{List, [], ◌∷◌, map}
 use borrow.Author.Tests.{eqb-true, eqb-false, ltb-true, ltb-false, le-leb, lt-leb}
 use lib.Dec.{eqb, ltb}
 use lib.ListN.{length, get_or, set, drop, replicate, length-set, length-replicate, get_or-replicate, length-map, drop_of_length-le, get_or-map, get_or-eq_default}
 use lib.Seq.{drop-cons, ext_get_or, get_or-set_same, get_or-set_other}
 use Rattle.utf8.specs.Lists.{is_empty, any, filter, below, numbered_from, numbered, starts_with}
 use Rattle.utf8.proofs.Tests.{either, clash, or_left, or_right}
-use Rattle.utf8.proofs.Starts.{no_elements}
 use Rattle.utf8.proofs.Places.{get_or_inside, length-count_from, get_or_count_from, length-numbered, get_or_numbered}
-use Rattle.model.specs.declared.Found.{Found}
-use Rattle.model.specs.declared.Found.TheVariants.{At, Nothing}
-use Rattle.model.specs.inner.Search.{found_id}
 use Rattle.model.specs.Check.{empty_or_no_text, bad_token}
-use Rattle.sections.specs.Matches.{Match, longer, longest, longest_at, match_or, first_match}
+use Rattle.sections.specs.declared.Match.{Match}
+use Rattle.sections.specs.Matches.{longer, longest, longest_at, match_or, first_match}
 use Rattle.sections.specs.Beginnings.{begins_with, beginnings}
 use Rattle.sections.specs.inner.Seek.{note_first, note_firsts, may_begin, row_in, row_at, row_by, placed, match_by}
 
@@ -75,38 +72,12 @@ noted-first contents n =
     ∙ ap (cond (any (begins_with b) contents) 1) (get_or-replicate n b 0 0 (omega arith))
     ∙ sym (beginnings-at contents n b 0 (omega arith)))
 
--- Zeros up to the end are a row of zeros.
-pub cleared : (before row : List ℕ) (i : ℕ) → i ≤ length before → length before ≤ i → row ≡ replicate i 0 ++ drop i before → row ≡ replicate (length before) 0
-cleared before row i h k e =
-    let same : i ≡ length before = omega arith in
-    e ∙ rw (drop_of_length-le before k, append-nil) (ap (λ (n : ℕ). replicate n 0) same)
-
-module _ (c row : List ℕ) where
-  pub note-none : length c ≡ 0 → note_first c row ≡ row
-  note-none h = rw (no_elements c h)
-
-  pub note-some : 0 < length c → note_first c row ≡ set row (get_or c 0 0) 1
-  note-some h = go c h
-    where
-      go : (c : List ℕ) → 0 < length c → note_first c row ≡ set row (get_or c 0 0) 1
-      go [] h = absurd (omega arith)
-      go (x ∷ c) h = refl
-
 module _ (contents : List (List ℕ)) (row : List ℕ) (i : ℕ) where
   pub noted-next : i < length contents → note_firsts (drop i contents) row ≡ note_firsts (drop (i + 1) contents) (note_first (get_or contents i []) row)
   noted-next h = rw (add-one, drop-cons contents i [] h)
 
   pub noted-ended : length contents ≤ i → note_firsts (drop i contents) row ≡ row
   noted-ended h = rw (drop_of_length-le contents h)
-
-module _ (begins : List ℕ) (b : ℕ) where
-  pub may_past : length begins ≤ b → may_begin begins b ≡ true
-  unfolding may_begin
-  may_past h = rw (get_or-eq_default begins 1 {n = b} h)
-
-  pub may_at : b < length begins → may_begin begins b ≡ not (eqb (get_or begins b 0) 0)
-  unfolding may_begin
-  may_at h = rw (get_or_inside begins b 1 0 h)
 
 -- What such a row rules out begins no content.
 pub record Sound (begins : List ℕ) (contents : List (List ℕ)) : Type 0 where
@@ -136,33 +107,33 @@ abbrev pub longest_from : List (List ℕ) → List ℕ → ℕ → Option (ℕ �
 longest_from contents text i = longest (filter (λ (c : ℕ × List ℕ). starts_with c.1 text) (drop i (numbered contents)))
 
 -- What a row says of it, and how long that is.
-abbrev pub held : List (List ℕ) → Found → Option (ℕ × List ℕ)
-held contents Nothing = none
-held contents (At row) = some (row, get_or contents row [])
+abbrev pub held : List (List ℕ) → Option ℕ → Option (ℕ × List ℕ)
+held contents None = None
+held contents (Some row) = Some (row, get_or contents row [])
 
 abbrev pub length_of : Option (ℕ × List ℕ) → ℕ
-length_of none = 0
-length_of (some c) = length c.1
+length_of None = 0
+length_of (Some c) = length c.1
 
 -- Of the rows from i on the longest content stands at best, and is long bytes long.
-pub record Best (contents : List (List ℕ)) (text : List ℕ) (i : ℕ) (best : Found) (long : ℕ) : Type 0 where
+pub record Best (contents : List (List ℕ)) (text : List ℕ) (i : ℕ) (best : Option ℕ) (long : ℕ) : Type 0 where
   pub is : longest_from contents text i ≡ held contents best
   pub size : long ≡ length_of (held contents best)
 
 module _ (contents : List (List ℕ)) (text : List ℕ) where
-  pub best_start : (i : ℕ) → length contents ≤ i → Best contents text i Nothing 0
+  pub best_start : (i : ℕ) → length contents ≤ i → Best contents text i None 0
   best_start i h = record { is = rw (drop_of_length-le (numbered contents) {i = i} (omega (arith, length-numbered contents))); size = refl }
 
-  pub best_ended : (best : Found) (long : ℕ) → Best contents text 0 best long → found_id best ≡ row_at contents text
+  pub best_ended : (best : Option ℕ) (long : ℕ) → Best contents text 0 best long → best ≡ row_at contents text
   unfolding row_at longest_at
   best_ended best long b = go best ∙ sym (ap row_in b.is)
     where
-      go : (f : Found) → found_id f ≡ row_in (held contents f)
-      go Nothing = refl
-      go (At row) = refl
+      go : (f : Option ℕ) → f ≡ row_in (held contents f)
+      go None = refl
+      go (Some row) = refl
 
   -- One row more, from the last to the first.
-  module _ (row : ℕ) (best : Found) (long : ℕ) (some_left : 0 < row) (h : row ≤ length contents) (b : Best contents text row best long) where
+  module _ (row : ℕ) (best : Option ℕ) (long : ℕ) (some_left : 0 < row) (h : row ≤ length contents) (b : Best contents text row best long) where
     abbrev content : List ℕ
     content = get_or contents (row - 1) []
 
@@ -179,36 +150,31 @@ module _ (contents : List (List ℕ)) (text : List ℕ) where
     pub best_apart : starts_with content text ≡ false → Best contents text (row - 1) best long
     best_apart e = record { is = one_more false e ∙ b.is; size = b.size }
 
-    pub best_taken : starts_with content text ≡ true → long ≤ length content → Best contents text (row - 1) (At (row - 1)) (length content)
-    best_taken e l = record { is = one_more true e ∙ rw b.is (ap some (go best b.size)); size = refl }
+    pub best_taken : starts_with content text ≡ true → long ≤ length content → Best contents text (row - 1) (Some (row - 1)) (length content)
+    best_taken e l = record { is = one_more true e ∙ rw b.is (ap Some (go best b.size)); size = refl }
       where
-        go : (f : Found) → long ≡ length_of (held contents f) → longer (row - 1, content) (held contents f) ≡ (row - 1, content)
-        go Nothing q = refl
-        go (At other) q = rw (le-leb (length (get_or contents other [])) (length content) (omega arith))
+        go : (f : Option ℕ) → long ≡ length_of (held contents f) → longer (row - 1, content) (held contents f) ≡ (row - 1, content)
+        go None q = refl
+        go (Some other) q = rw (le-leb (length (get_or contents other [])) (length content) (omega arith))
 
     pub best_short : length content < long → Best contents text (row - 1) best long
     best_short l = ⊎_elim stands (λ e. best_apart e) (either (starts_with content text))
       where
-        go : (f : Found) → long ≡ length_of (held contents f) → some (longer (row - 1, content) (held contents f)) ≡ held contents f
-        go Nothing q = absurd (omega arith)
-        go (At other) q = rw (lt-leb (length (get_or contents other [])) (length content) (omega arith))
+        go : (f : Option ℕ) → long ≡ length_of (held contents f) → Some (longer (row - 1, content) (held contents f)) ≡ held contents f
+        go None q = absurd (omega arith)
+        go (Some other) q = rw (lt-leb (length (get_or contents other [])) (length content) (omega arith))
 
         stands : starts_with content text ≡ true → Best contents text (row - 1) best long
         stands e = record { is = one_more true e ∙ rw b.is (go best b.size); size = b.size }
 
 -- ---- the leftmost place
 
-pub row_by-at : (begins : List ℕ) (contents : List (List ℕ)) (text : List ℕ) → 0 < length text
-    → row_by begins contents text ≡ cond (may_begin begins (get_or text 0 0)) (row_at contents text) none
-row_by-at begins contents [] h = absurd (omega arith)
-row_by-at begins contents (x ∷ text) h = refl
-
 module _ (begins : List ℕ) (contents : List (List ℕ)) (text : List ℕ) (place : ℕ) where
   pub match_next : place < length text
       → match_by begins contents place (drop place text) ≡ placed place (row_by begins contents (drop place text)) (match_by begins contents (place + 1) (drop (place + 1) text))
   match_next h = rw (drop-cons text place 0 h, add-one)
 
-  pub match_ended : length text ≤ place → match_by begins contents place (drop place text) ≡ none
+  pub match_ended : length text ≤ place → match_by begins contents place (drop place text) ≡ None
   match_ended h = rw (drop_of_length-le text h)
 
 -- ---- with a sound row nothing is passed over
@@ -225,7 +191,7 @@ none_stands ([] ∷ contents) p b text e f = clash e refl
 none_stands ((x ∷ c) ∷ contents) p b text e f =
     rw (or_left (eqb x b) (any (begins_with b) contents) f) (none_stands contents (suc p) b text e (or_right (eqb x b) (any (begins_with b) contents) f))
 
-none-longest : (contents : List (List ℕ)) (b : ℕ) (text : List ℕ) → any is_empty contents ≡ false → any (begins_with b) contents ≡ false → longest_at contents (b ∷ text) ≡ none
+none-longest : (contents : List (List ℕ)) (b : ℕ) (text : List ℕ) → any is_empty contents ≡ false → any (begins_with b) contents ≡ false → longest_at contents (b ∷ text) ≡ None
 unfolding longest_at
 none-longest contents b text e f = ap longest (none_stands contents 0 b text e f)
 
@@ -237,10 +203,10 @@ match_first begins contents sound fine place [] = refl
 match_first begins contents sound fine place (b ∷ text) = go (may_begin begins b) refl (match_first begins contents sound fine (suc place) text)
   where
     same_match : (l : Option (ℕ × List ℕ)) {x y : Option Match} → x ≡ y → placed place (row_in l) x ≡ match_or place l y
-    same_match none e = e
-    same_match (some c) e = refl
+    same_match None e = e
+    same_match (Some c) e = refl
 
     go : (t : Bool) → may_begin begins b ≡ t → match_by begins contents (suc place) text ≡ first_match contents (suc place) text
-        → placed place (cond t (row_at contents (b ∷ text)) none) (match_by begins contents (suc place) text) ≡ match_or place (longest_at contents (b ∷ text)) (first_match contents (suc place) text)
+        → placed place (cond t (row_at contents (b ∷ text)) None) (match_by begins contents (suc place) text) ≡ match_or place (longest_at contents (b ∷ text)) (first_match contents (suc place) text)
     go true q e = same_match (longest_at contents (b ∷ text)) e
     go false q e = rw (none-longest contents b text (no_empty contents fine) (sound.none_begins b q)) e

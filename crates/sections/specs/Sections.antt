@@ -4,7 +4,8 @@ use Rattle.std.proofs.Math.Seq.{slice}
 use Rattle.utf8.specs.Lists.{is_empty}
 use Rattle.utf8.specs.WhiteSpace.{trim_start, trim_end}
 use Rattle.model.specs.Model.{TokenList, contents, token_at}
-use Rattle.sections.specs.Matches.{Match, end, matches}
+use Rattle.sections.specs.declared.Match.{Match}
+use Rattle.sections.specs.Matches.{end, matches}
 
 -- What a text comes to: tokens by their ids, and what stands between them.
 pub data Item (A : Type 0) : Type 0 where

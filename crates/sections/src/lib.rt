@@ -3,30 +3,48 @@
 
 #![tactic(auto)]
 
+ghost use Rattle.std.specs.Prelude.{◌≡◌, cond};
+ghost use Rattle.sections.specs.inner.Walk.{is_afresh};
+
 pub mod first;
 pub mod seek;
 pub mod strips;
 pub mod walk;
 
-// What a search for tokens gives.
-#[derive(Clone, Copy)]
-pub enum Sought {
-    // The place where a token stands, and its row.
-    Found { place: usize, row: usize },
-    Missing,
+// An occurrence of a token: the place where it starts, and the token's row.
+#[derive(Clone, Copy, PartialEq, Eq, Debug)]
+pub struct Match {
+    pub place: usize,
+    pub row: usize,
 }
 
-// The next match that is not swallowed.
+// The next match that is not swallowed, where it ends, and how many matches may follow.
 #[derive(Clone, Copy)]
-pub enum Taken {
-    // Where it stands, its row, where it ends, and how many matches may follow.
-    Here {
-        place: usize,
-        row: usize,
-        end: usize,
-        turns: usize,
-    },
-    Nowhere,
+pub struct Taken {
+    pub found: Match,
+    pub end: usize,
+    pub turns: usize,
+}
+
+// How the search for tokens goes on behind a token.
+#[derive(Clone, Copy, PartialEq, Eq)]
+pub enum Search {
+    // From the token's end, whatever strips take: sections, by the first list.
+    Onward,
+    // From where the token's strip left off: parts, by the second list.
+    Afresh,
+}
+
+impl Search {
+    // Where it goes on, if the next section begins at `start` and the token ends at `end`.
+    pub(crate) fn resume(self, start: usize, end: usize) -> usize
+        ensures { result ≡ cond (is_afresh self) start end }
+    {
+        match self {
+            Search::Onward => end,
+            Search::Afresh => start,
+        }
+    }
 }
 
 // Where a walk through the tokens of a text and what stands between them has come to.

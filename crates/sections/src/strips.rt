@@ -1,16 +1,18 @@
 // Where tokens end, and what their strips take from the sections beside them.
 ghost use Rattle.std.specs.Prelude.{◌≡◌, false, ◌+◌, length, get_or, drop};
-ghost use Rattle.model.specs.Model.{strings};
+ghost use Rattle.model.specs.Model.{strings_of};
 ghost use Rattle.sections.specs.inner.Strips.{stop_at, start_at, end_within};
 
-use model::tables::{part, string_at};
+use crate::Match;
+use model::Strings;
+use model::tables::part;
 use utf8::white_space::{trim_end, trim_start};
 
 // The flag at `i` of a column, false past its end.
 pub fn flag_at(column: &[bool], i: usize) -> bool
     ensures { result ≡ get_or column.now i false }
 {
-    if i < column.len() { column[i] } else { false }
+    column.get(i).copied().unwrap_or(false)
 }
 
 // Where the section that begins at `start` stops before a token at `place`.
@@ -32,11 +34,11 @@ pub fn rest_after<'t>(text: &'t [u8], place: usize, token: &[u8]) -> &'t [u8]
     part(rest, token.len(), rest.len())
 }
 
-// Where the token of `row` ends if it stands at `place`, within the text.
-pub fn token_end(bytes: &[u8], offsets: &[u32], text: &[u8], place: usize, row: usize) -> usize
-    ensures { result ≡ end_within (strings bytes.now offsets.now) text.now (record { place = place; row = row }) }
+// Where the token of a match ends, within the text.
+pub fn token_end(contents: &Strings<'_>, text: &[u8], found: Match) -> usize
+    ensures { result ≡ end_within (strings_of contents.now) text.now found }
 {
-    let rest = rest_after(text, place, string_at(bytes, offsets, row));
+    let rest = rest_after(text, found.place, contents.get(found.row));
     text.len() - rest.len()
 }
 

@@ -1,9 +1,9 @@
 -- What the passes find by the rows that are derived of an accepted model is what the model says. Assumes nothing.
+use Rattle.std.specs.Prelude.{Option}
 use Prim.Native.Nat.{ℕ, ◌+◌, min}
 use native.Mathlib.Omega.{arith}
 use mathlib.Core.Path.{◌≡◌, refl, sym, ap, ap₂, ◌∙◌, subst}
 use mathlib.Core.Bool.{Bool}
-use mathlib.Core.Option.{Option}
 use mathlib.Core.List.{List, [], ◌∷◌, map}
 use lib.ListN.{length}
 use lib.Seq.{slice}
@@ -85,7 +85,7 @@ module _ (m : Model) (fine : check_number m ≡ 0) where
   read : (from to : ℕ) {part : List ℕ} → slice from to (derived_index m) ≡ part → words from to (derived_index m) ≡ part
   read from to e = slice_of from to (derived_index m) ∙ e
 
-  pub own_derived : own_in (derived_index m) m.piece_bytes m.piece_offsets m.lookup ≡ own_by m ok
+  pub own_derived : own_in (tables_of m) ≡ own_by m ok
   unfolding own_in
   own_derived = ap₂ (own_found m.piece_bytes m.piece_offsets m.lookup) (read 69 582 (piece-index-at m)) (mark-at m)
 
@@ -124,7 +124,7 @@ module _ (m : Model) (fine : check_number m ≡ 0) where
 
   -- The first pass counts what the definitions count,
   pub parts-counted : (parts : List (Item Stretch)) → Each OfBytes parts → (room : ℕ)
-      → ◌≡◌ {A = Symbols} (parts_symbols (own_in (derived_index m) m.piece_bytes m.piece_offsets m.lookup) m.fallback parts room) (record { count = min (sum (map (starts_of m) parts)) room; drops = held (sum (map (drops_of m) parts)) })
+      → ◌≡◌ {A = Symbols} (parts_symbols (own_in (tables_of m)) m.fallback parts room) (record { count = min (sum (map (starts_of m) parts)) room; drops = held (sum (map (drops_of m) parts)) })
   unfolding parts_symbols
   parts-counted parts small room =
       rw own_derived

@@ -1,10 +1,10 @@
 -- Laws of parts: what is counted and written of a stretch, by the rows that are derived of a model, and of a token. Assumes nothing.
+use Rattle.std.specs.Prelude.{Option}
 use Prim.Native.Nat.{ℕ, ◌+◌, ◌≤◌, ◌<◌, min, max}
 use native.Mathlib.Omega.{arith}
 use native.Mathlib.Nat.{add-zero, zero-min}
-use mathlib.Core.Path.{◌≡◌, sym, ap, ap₂, ◌∙◌}
+use mathlib.Core.Path.{◌≡◌, sym, ap, ◌∙◌}
 use mathlib.Core.Bool.{Bool, true, false}
-use mathlib.Core.Option.{Option}
 use mathlib.Core.List.{List, [], ◌∷◌, map}
 use borrow.Author.Tests.{ne_eqb}
 use lib.ListN.{length, get_or, drop, length-drop, length-map}
@@ -19,6 +19,7 @@ use Rattle.utf8.proofs.Characters.{chars-nil, chars_step}
 use Rattle.model.specs.Model.{strings}
 use Rattle.units.specs.inner.Next.{units_from}
 use Rattle.units.specs.Units.{begins_unit}
+use Rattle.units.specs.Kinds.{Crossing}
 use Rattle.units.specs.inner.Read.{pair_noted, named_crossings}
 use Rattle.units.specs.declared.WordSplit.{WordSplit}
 use Rattle.merge.specs.Start.{starting_ids_by, is_dropped_by, as_mark, unit_chars, with_virtual_mark}
@@ -69,36 +70,40 @@ module _ (own : List ℕ → Option ℕ) (fallback : List ℕ) (bytes : List ℕ
       rw (empty_by_length bytes, ne_eqb (length bytes) 0 e)
       (rw (add-zero (length (join_map (starting_ids_by own fallback) all))) (ap {B = Symbols} (λ (n : ℕ). record { count = min (length (join_map (starting_ids_by own fallback) all)) room; drops = n }) whole))
 
+-- ---- by the index
+
 -- A part of the index, as it is read.
 read : (from to : ℕ) (index : List ℕ) {part : List ℕ} → part ≡ slice from to index → part ≡ words from to index
 read from to index e = e ∙ sym (slice_of from to index)
 
--- The count by the index.
-pub stretch-told : (index piece_bytes piece_offsets lookup fallback bytes : List ℕ) (virtual raw : Bool) (room : ℕ) {first_bytes : List ℕ} {id : ℕ} {s : Symbols}
-    → s ≡ unit_symbols (own_found piece_bytes piece_offsets lookup first_bytes id) fallback (marked_chars virtual raw bytes) room
-    → first_bytes ≡ slice first_bytes_at buckets_at index → id ≡ get_or index mark_id_at 0 → (length bytes ≡ 0 → ⊥) → length bytes < 9223372036854775808
-    → s ≡ parts_symbols (own_in index piece_bytes piece_offsets lookup) fallback (stretch bytes virtual raw) room
+-- What characters are spelled by, as it is read.
+pub own_read : (t : Tables) {piece_bytes piece_offsets lookup words : List ℕ} {id : ℕ}
+    → piece_bytes ≡ t.piece_bytes → piece_offsets ≡ t.piece_offsets → lookup ≡ t.lookup → words ≡ slice first_bytes_at buckets_at t.index → id ≡ get_or t.index mark_id_at 0
+    → own_found piece_bytes piece_offsets lookup words id ≡ own_in t
 unfolding own_in
-stretch-told index piece_bytes piece_offsets lookup fallback bytes virtual raw room e f i some short =
-    e
-    ∙ ap₂ (λ (first_bytes : List ℕ) (id : ℕ). unit_symbols (own_found piece_bytes piece_offsets lookup first_bytes id) fallback (marked_chars virtual raw bytes) room) (read first_bytes_at buckets_at index f) i
-    ∙ section_counted (own_in index piece_bytes piece_offsets lookup) fallback bytes virtual raw room some short
+own_read t b o l w i = rw (b, o, l, read first_bytes_at buckets_at t.index w, i)
 
--- The writer by the index.
-pub stretch_found : (t : Tables) (virtual raw : Bool) (bytes out : List ℕ) {kind : WordSplit} {noted first_bytes row_index : List ℕ} {count id shift : ℕ} {done : Merged}
-    → done
-    ≡ stretch_writer (row_in t.left t.right t.result t.rank row_index shift) (own_found t.piece_bytes t.piece_offsets t.lookup first_bytes id) t.fallback (begins_unit kind (named_crossings (strings t.piece_bytes t.piece_offsets) noted count) (pair_noted t.adjacency) raw bytes) virtual raw bytes out
-    → kind ≡ kind_from (get_or t.index kind_at 0) → count ≡ get_or t.index crossing_count_at 0 → id ≡ get_or t.index mark_id_at 0 → shift ≡ get_or t.index shift_at 0
-    → noted ≡ slice crossings_at mark_id_at t.index → first_bytes ≡ slice first_bytes_at buckets_at t.index → row_index ≡ slice buckets_at first_tokens_at t.index
-    → done ≡ stretch_in t virtual raw bytes out
-unfolding stretch_in own_in rows_in cuts_in
-stretch_found t virtual raw bytes out e k c i s n f r =
-    e ∙ rw (k, c, i, s, read crossings_at mark_id_at t.index n, read first_bytes_at buckets_at t.index f, read buckets_at first_tokens_at t.index r)
+-- The rows,
+pub rows_read : (t : Tables) {left right result rank words : List ℕ} {shift : ℕ}
+    → left ≡ t.left → right ≡ t.right → result ≡ t.result → rank ≡ t.rank → words ≡ slice buckets_at first_tokens_at t.index → shift ≡ get_or t.index shift_at 0
+    → row_in left right result rank words shift ≡ rows_in t
+unfolding rows_in
+rows_read t l r e k w s = rw (l, r, e, k, read buckets_at first_tokens_at t.index w, s)
+
+-- and where units start.
+pub cuts_read : (t : Tables) {kind : WordSplit} {crossings : List Crossing} {adjacency : List ℕ}
+    → kind ≡ kind_from (get_or t.index kind_at 0)
+    → crossings ≡ named_crossings (strings t.piece_bytes t.piece_offsets) (slice crossings_at mark_id_at t.index) (get_or t.index crossing_count_at 0)
+    → adjacency ≡ t.adjacency → (raw : Bool) (bytes : List ℕ) → begins_unit kind crossings (pair_noted adjacency) raw bytes ≡ cuts_in t raw bytes
+unfolding cuts_in
+cuts_read t k c a raw bytes =
+    rw (k, c, a)
+    (ap (λ (noted : List ℕ). begins_unit (kind_from (get_or t.index kind_at 0)) (named_crossings (strings t.piece_bytes t.piece_offsets) noted (get_or t.index crossing_count_at 0)) (pair_noted t.adjacency) raw bytes) (sym (slice_of crossings_at mark_id_at t.index)))
 
 pub keeps_stretch : (t : Tables) (virtual raw : Bool) (bytes : List ℕ) → Keeps (stretch_in t virtual raw bytes)
 unfolding stretch_in stretch_writer unit_writers
 keeps_stretch t virtual raw bytes =
-    let own = own_in t.index t.piece_bytes t.piece_offsets t.lookup in
+    let own = own_in t in
     keeps_all (unit_writer (rows_in t) own t.fallback) (keeps_unit (rows_in t) own t.fallback) (with_virtual_mark virtual (map (unit_chars raw) (units_from (cuts_in t raw bytes) bytes 0)))
 
 module _ (t : Tables) (bytes : List ℕ) (virtual raw : Bool) (out : List ℕ) where

@@ -1,10 +1,10 @@
 -- Laws of units that come again: what is remembered of a unit, and its ids copied. Assumes nothing.
+use Rattle.std.specs.Prelude.{Option}
 use Prim.Native.Nat.{ℕ, suc, ◌+◌, ◌-◌, ◌≤◌, ◌<◌, min}
 use native.Mathlib.Omega.{arith}
 use mathlib.Core.Path.{◌≡◌, refl, sym, ap, ap₂, ◌∙◌}
 use mathlib.Core.Bool.{Bool, true, false, ◌&&◌}
 use mathlib.Core.Logic.{⊎_elim}
-use mathlib.Core.Option.{Option}
 use mathlib.Core.List.{List, [], ◌∷◌, ◌++◌, append_assoc, append-nil}
 use borrow.Author.Tests.{eqb-true, eqb-false, ltb-true}
 use lib.Dec.{eqb, ltb}
@@ -52,7 +52,7 @@ module _ (out : List ℕ) (at count to : ℕ) (behind : at + count ≤ to) (fits
 
 -- Zeros behind what was copied, in a part that was lent.
 pub zeroed : (out copy : List ℕ) (to count starts : ℕ) → length copy ≡ count → count ≤ starts → to + starts ≤ length out
-    → {now ys : List ℕ} → now ≡ take to out ++ copy ++ drop (to + count) out → ys ≡ zeros (length (take (to + starts - (to + count)) (drop (to + count) now)) - 0)
+    → {now ys : List ℕ} → now ≡ take to out ++ copy ++ drop (to + count) out → ys ≡ zeros (length (take (to + starts - (to + count)) (drop (to + count) now)))
     → take (to + count) now ++ (ys ++ drop (to + starts - (to + count)) (drop (to + count) now)) ≡ take to out ++ copy ++ zeros (starts - count) ++ drop (to + starts) out
 zeroed out copy to count starts long few fits {now} {ys} e z =
     let head = take to out ++ copy in
@@ -61,9 +61,9 @@ zeroed out copy to count starts long few fits {now} {ys} e z =
     let size : length head ≡ to + count = omega (arith, length-append (take to out) copy, length-take-le to out (omega arith)) in
     let first : take (to + count) now ≡ head = ap (take (to + count)) e ∙ take_at head rest (to + count) size in
     let left : drop (to + count) now ≡ rest = ap (drop (to + count)) e ∙ drop_at head rest (to + count) size in
-    let free : length (take k rest) - 0 ≡ starts - count = omega (arith, length-take k rest, length-drop (to + count) out) in
+    let free : length (take k rest) ≡ starts - count = omega (arith, length-take k rest, length-drop (to + count) out) in
     let last : drop k rest ≡ drop (to + starts) out = drop-drop k (to + count) out ∙ ap (λ (n : ℕ). drop n out) (let s : to + count + k ≡ to + starts = omega arith in s) in
-    let blank : ys ≡ zeros (starts - count) = z ∙ ap (λ (l : List ℕ). zeros (length (take k l) - 0)) left ∙ ap zeros free in
+    let blank : ys ≡ zeros (starts - count) = z ∙ ap (λ (l : List ℕ). zeros (length (take k l))) left ∙ ap zeros free in
     rw (first, left, blank, last) (sym (append_assoc head (zeros (starts - count)) (drop (to + starts) out)))
 
 -- ---- what is remembered of a unit

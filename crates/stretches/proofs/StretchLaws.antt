@@ -1,10 +1,10 @@
 -- Laws of a stretch's units, one after the other. Assumes nothing.
+use Rattle.std.specs.Prelude.{Option}
 use Prim.Native.Nat.{ℕ, suc, ◌+◌, ◌-◌, ◌≤◌, ◌<◌}
 use native.Mathlib.Omega.{arith}
 use mathlib.Core.Path.{◌≡◌, refl, sym, ap, ◌∙◌}
 use mathlib.Core.Bool.{Bool, false}
 use mathlib.Core.Logic.{⊎_elim}
-use mathlib.Core.Option.{Option}
 use mathlib.Core.List.{List, [], ◌∷◌, ◌++◌, map}
 use borrow.Author.Tests.{leb-true, leb-false}
 use lib.Dec.{leb}

@@ -1,9 +1,9 @@
 -- Laws of writing in turn: from writer to writer, and what stands at the front where there is room for all starting ids. Assumes nothing.
+use Rattle.std.specs.Prelude.{Option, None, Some}
 use Prim.Native.Nat.{ℕ, ◌+◌, ◌-◌, ◌≤◌, min}
 use native.Mathlib.Nat.{add-zero, zero-add}
 use native.Mathlib.Omega.{arith}
 use mathlib.Core.Path.{◌≡◌, refl, sym, ap, ap₂, ◌∙◌}
-use mathlib.Core.Option.{Option, none, some}
 use mathlib.Core.List.{List, [], ◌∷◌, ◌++◌, map, append_assoc, append-nil}
 use lib.ListN.{length, take, drop, length-append, length-take, length-drop, take-append-drop, drop_of_length-le, length-replicate}
 use lib.Seq.{length-take-le, take-append-add, drop-append-add, take_at}
@@ -32,10 +32,10 @@ unit-merged row own fallback chars before e f = f ∙ ap (λ (l : Laid). merged_
 pub merged_few : (row : ℕ → ℕ → Option Row) (ids : List ℕ) → length (merged row ids) ≤ length ids
 merged_few row = by_merges row (λ (ids : List ℕ). length (merged row ids) ≤ length ids) stop step
   where
-    stop : (ids : List ℕ) → next_merge row ids ≡ none → length (merged row ids) ≤ length ids
+    stop : (ids : List ℕ) → next_merge row ids ≡ None → length (merged row ids) ≤ length ids
     stop ids e = omega (arith, ap length (merged-none row ids e))
 
-    step : (ids : List ℕ) (c : Candidate) → next_merge row ids ≡ some c → length (merged row (merged_at c ids)) ≤ length (merged_at c ids) → length (merged row ids) ≤ length ids
+    step : (ids : List ℕ) (c : Candidate) → next_merge row ids ≡ Some c → length (merged row (merged_at c ids)) ≤ length (merged_at c ids) → length (merged row ids) ≤ length ids
     step ids c e h = omega (arith, ap length (merged_step row ids c e), merged_shorter row (next_found row ids c e))
 
 -- A writer keeps the buffer's length, and what it writes lies in it.

@@ -2,3 +2,4 @@
 pub mod Writers
 pub mod Tables
 pub mod Parts
+pub mod Encoders

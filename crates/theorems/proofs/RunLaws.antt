@@ -1,11 +1,12 @@
 -- Runs of turns: what they come to, that none goes on for ever, and that each can be carried on to its end. Assumes nothing.
+use Rattle.std.specs.Prelude.{Option, None, Some}
+use Rattle.std.proofs.lemmas.Option.{none-some}
 use Prim.Native.Nat.{ℕ, zero, suc, ◌+◌, ◌<◌}
 use native.Mathlib.Omega.{arith}
 use native.Mathlib.Nat.{not-suc-le-zero}
 use mathlib.Core.Path.{◌≡◌, refl, sym, ap, ◌∙◌, subst}
 use mathlib.Core.Logic.{◌⊎◌, inl, inr}
 use mathlib.Core.List.{List, [], ◌∷◌, ◌++◌, map, append_assoc}
-use mathlib.Core.Option.{Option, none, some, none-ne-some}
 use lib.ListN.{length}
 use Rattle.utf8.specs.Lists.{sum}
 use Rattle.model.specs.Model.{Model, row_of, merge_rows}
@@ -31,8 +32,8 @@ module _ (m : Model) where
   none_left left (unit ∷ units) e = go (none_left (left ++ (unit ∷ [])) units (subst (Ended m) (sym (append_assoc left (unit ∷ []) units)) e)) (next_merge (row_of (merge_rows m)) unit) refl
     where
       go : NoneLeft (row_of (merge_rows m)) units → (o : Option Candidate) → next_merge (row_of (merge_rows m)) unit ≡ o → NoneLeft (row_of (merge_rows m)) (unit ∷ units)
-      go others none q = (q, others)
-      go others (some c) q =
+      go others None q = (q, others)
+      go others (Some c) q =
           absurd (e (left ++ merged_at c unit ∷ units) (record { left = left; unit = unit; right = units; merge = c; was = refl; next = q; is = refl }))
 
   -- A run that has ended has merged each unit.
@@ -80,12 +81,12 @@ module _ (m : Model) where
     where
       go : ((after : List (List ℕ)) × Turn m units after) ⊎ NoneLeft (row_of (merge_rows m)) units → (o : Option Candidate) → next_merge (row_of (merge_rows m)) unit ≡ o
           → ((after : List (List ℕ)) × Turn m (unit ∷ units) after) ⊎ NoneLeft (row_of (merge_rows m)) (unit ∷ units)
-      go others (some c) q = inl (merged_at c unit ∷ units, record { left = []; unit = unit; right = units; merge = c; was = refl; next = q; is = refl })
-      go (inl t) none q = inl (unit ∷ t.0, more unit t.1)
-      go (inr others) none q = inr (q, others)
+      go others (Some c) q = inl (merged_at c unit ∷ units, record { left = []; unit = unit; right = units; merge = c; was = refl; next = q; is = refl })
+      go (inl t) None q = inl (unit ∷ t.0, more unit t.1)
+      go (inr others) None q = inr (q, others)
 
-  left_ended : (left right : List (List ℕ)) (unit : List ℕ) (c : Candidate) → NoneLeft (row_of (merge_rows m)) (left ++ unit ∷ right) → next_merge (row_of (merge_rows m)) unit ≡ some c → ⊥
-  left_ended [] right unit c e q = none-ne-some c (sym e.0 ∙ q)
+  left_ended : (left right : List (List ℕ)) (unit : List ℕ) (c : Candidate) → NoneLeft (row_of (merge_rows m)) (left ++ unit ∷ right) → next_merge (row_of (merge_rows m)) unit ≡ Some c → ⊥
+  left_ended [] right unit c e q = none-some c (sym e.0 ∙ q)
   left_ended (l ∷ left) right unit c e q = left_ended left right unit c e.1 q
 
   ended : (units : List (List ℕ)) → NoneLeft (row_of (merge_rows m)) units → Ended m units

@@ -108,7 +108,7 @@ unfolding Chars.char_forms Chars.char_width Chars.chars Chars.is_char Chars.vali
     Steps.prepended Steps.occurrences Steps.replaced Steps.space_run Steps.collapsed Steps.stripped Steps.applied Steps.step_outputs Steps.stepped
     Spaces.spaces_marked Spaces.scheme_prepends Spaces.mark_prepended Spaces.metaspace_output Spaces.metaspaced
     Normalise.normalised Normalise.outgrows Normalise.normalise_outputs Normalise.normalise_number Normalise.normalise_outcome
-    Kinds.crosses_at Kinds.crossing_at Kinds.crossings_of Kinds.crossings Kinds.holds_mark Kinds.is_tangled Kinds.splits Kinds.word_split Kinds.kind_of Kinds.is_prepend_mark Kinds.is_space_replace Kinds.is_present Kinds.prepend_of Kinds.raw_path_of Kinds.is_none Kinds.raw_path Kinds.has_raw_path
+    Kinds.crosses_at Kinds.crossing_at Kinds.crossings_of Kinds.crossings Kinds.holds_mark Kinds.is_tangled Kinds.splits Kinds.word_split Kinds.kind_of Kinds.is_prepend_mark Kinds.is_space_replace Kinds.is_present Kinds.prepend_of Kinds.prepend_by Kinds.raw_path_of Kinds.is_none Kinds.raw_path Kinds.has_raw_path
     Units.spanned Units.mark_cuts Units.punctuation Units.holds_pair Units.byte_before Units.punctuation_cuts Units.begins_unit Units.cut Units.units
     Adjacency.bits Adjacency.adjacency_word Adjacency.adjacency
     Derived.places_within Derived.places_in Derived.crossing_places Derived.noted_of Derived.place_words Derived.noted_words Derived.noting

@@ -3,8 +3,6 @@ use Rattle.std.specs.Prelude.{ℕ, ◌≡◌, refl, Bool, true, false, not, cond
 use Rattle.utf8.specs.Lists.{all, any, filter, join_map, same, below, between}
 use Rattle.model.specs.Model.{Model, model_of, no_id, piece, pieces_of}
 use Rattle.model.specs.Check.{check_number}
-use Rattle.model.specs.declared.Metaspace.TheVariants.{Present}
-use Rattle.model.specs.declared.PrependScheme.TheVariants.{Always}
 use Rattle.units.specs.Kinds.{crossings, kind_of}
 use Rattle.units.specs.Units.{holds_pair, begins_unit}
 use Rattle.units.specs.declared.WordSplit.{WordSplit}
@@ -12,7 +10,7 @@ use Rattle.units.specs.declared.WordSplit.TheVariants.{SpaceRuns, EveryMark, Non
 use Rattle.merge.specs.Start.{vocabulary_of, is_dropped, unit_chars, with_virtual_mark}
 use Rattle.stretches.specs.Stretches.{Stretch, unit_ids}
 use Rattle.theorems.specs.Cases.{agrees}
-use Rattle.theorems.specs.Toys.{T, U, no_tokens, no_steps, toy_fallback}
+use Rattle.theorems.specs.Toys.{T, U, always, no_tokens, no_steps, toy_fallback}
 use Rattle.theorems.specs.UnitsKeepIds.{all_chars, unsplit_ids, mark_sections, sections_of, shown_bytes}
 
 -- The ids of units that are cut as a kind says, each unit merged by itself.
@@ -68,25 +66,25 @@ no_fallback = replicate 256 no_id
 -- One piece, `a`: the mark is not spelled.
 unfoldable pub unmarked : Model
 unmarked =
-    model_of (0x61 ∷ []) (0 ∷ 1 ∷ []) (0 ∷ []) no_fallback [] [] [] [] no_tokens no_tokens [] no_steps 0 (Present Always false)
+    model_of (0x61 ∷ []) (0 ∷ 1 ∷ []) (0 ∷ []) no_fallback [] [] [] [] no_tokens no_tokens [] no_steps 0 (always false)
 
 -- T with a piece that is no text: 8 = A9 and the mark, row (7,0)->8 rank 0.
 unfoldable pub not_text : Model
 not_text =
     model_of (T.piece_bytes ++ (0xA9 ∷ 0xE2 ∷ 0x96 ∷ 0x81 ∷ [])) (T.piece_offsets ++ (18 ∷ [])) (5 ∷ 1 ∷ 3 ∷ 2 ∷ 7 ∷ 8 ∷ 6 ∷ 0 ∷ 4 ∷ []) toy_fallback
-    (0 ∷ 1 ∷ 7 ∷ []) (1 ∷ 2 ∷ 0 ∷ []) (4 ∷ 3 ∷ 8 ∷ []) (1 ∷ 0 ∷ 0 ∷ []) no_tokens no_tokens [] no_steps 0 (Present Always false)
+    (0 ∷ 1 ∷ 7 ∷ []) (1 ∷ 2 ∷ 0 ∷ []) (4 ∷ 3 ∷ 8 ∷ []) (1 ∷ 0 ∷ 0 ∷ []) no_tokens no_tokens [] no_steps 0 (always false)
 
 -- A crossing piece with a mark behind its mark: 0 mark, 1 `a`, 2 `b`, 3 mark+`a`, 4 two marks+`a`, 5 `b`+two marks+`a`.
 unfoldable pub tangled : Model
 tangled =
     model_of (0xE2 ∷ 0x96 ∷ 0x81 ∷ 0x61 ∷ 0x62 ∷ 0xE2 ∷ 0x96 ∷ 0x81 ∷ 0x61 ∷ 0xE2 ∷ 0x96 ∷ 0x81 ∷ 0xE2 ∷ 0x96 ∷ 0x81 ∷ 0x61 ∷ 0x62 ∷ 0xE2 ∷ 0x96 ∷ 0x81 ∷ 0xE2 ∷ 0x96 ∷ 0x81 ∷ 0x61 ∷ [])
     (0 ∷ 3 ∷ 4 ∷ 5 ∷ 9 ∷ 16 ∷ 24 ∷ []) (1 ∷ 2 ∷ 5 ∷ 0 ∷ 3 ∷ 4 ∷ []) no_fallback
-    (0 ∷ 0 ∷ 2 ∷ []) (1 ∷ 3 ∷ 4 ∷ []) (3 ∷ 4 ∷ 5 ∷ []) (0 ∷ 1 ∷ 2 ∷ []) no_tokens no_tokens [] no_steps 0 (Present Always false)
+    (0 ∷ 0 ∷ 2 ∷ []) (1 ∷ 3 ∷ 4 ∷ []) (3 ∷ 4 ∷ 5 ∷ []) (0 ∷ 1 ∷ 2 ∷ []) no_tokens no_tokens [] no_steps 0 (always false)
 
 -- U with split: EveryMark.
 unfoldable pub split : Model
 split =
-    model_of U.piece_bytes U.piece_offsets U.lookup toy_fallback U.left U.right U.result U.rank no_tokens no_tokens [] no_steps 0 (Present Always true)
+    model_of U.piece_bytes U.piece_offsets U.lookup toy_fallback U.left U.right U.result U.rank no_tokens no_tokens [] no_steps 0 (always true)
 
 unfoldable pub example : Model → WordSplit → ℕ → List ℕ → Bool → Bool → WordSplit → WordSplit → List ℕ → List ℕ → Example
 example m kind number bytes virtual dropped units_by sections_by apart unsplit =

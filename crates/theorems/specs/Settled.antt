@@ -1,17 +1,14 @@
 -- A contract here says that the answer and all lent cells afterwards are what a definition computes from what was there before. That
 -- settles everything: no two different outcomes satisfy it.
-use Rattle.std.specs.Prelude.{ℕ, ◌≡◌, refl, List}
+use Rattle.std.specs.Prelude.{ℕ, ◌≡◌, refl, cond, List, eqb, Result, Ok, Err, ⊤}
 use Rattle.std.proofs.Common.{sym, ap, ◌∙◌}
-use Rattle.std.proofs.Math.Option.{Option, none, some}
-use Rattle.model.specs.declared.Found.{Found}
-use Rattle.model.specs.declared.Found.TheVariants.{At, Nothing}
-use Rattle.model.specs.inner.Search.{found_id}
+use Rattle.model.specs.declared.Answer.{Answer}
+use Rattle.model.specs.declared.Counts.{Counts}
+use Rattle.model.specs.declared.Refusal.{Refusal}
+use Rattle.model.specs.declared.Refusal.TheVariants.{WrongSize, OffsetsAstray, BadPiece, BadLookup, BadFallback, BadRow, BadToken, BadStep, BadText, NoRawPath, ScratchTooShort, ResultTooShort}
+use Rattle.model.specs.Answers.{refused, number_of, place_named, answer_of, checked}
 use Rattle.units.specs.declared.Split.{Split}
 use Rattle.units.specs.Derived.{Noting}
-use Rattle.sections.specs.Matches.{Match}
-use Rattle.sections.specs.declared.Sought.{Sought}
-use Rattle.sections.specs.declared.Sought.TheVariants as sought
-use Rattle.sections.specs.inner.Seek.{sought_match}
 
 pub settled {ℓ κ} : {Before : Type ℓ} {After : Type κ} (outcome : Before → After) (before : Before) (x y : After) → x ≡ outcome before → y ≡ outcome before → x ≡ y
 settled outcome before x y p q = p ∙ sym q
@@ -33,28 +30,60 @@ settled_view view injective outcome before x y p q = injective x y (settled outc
 injective_by {ℓ κ} : {A : Type ℓ} {B : Type κ} (view : A → B) (back : B → A) → ((x : A) → back (view x) ≡ x) → (x y : A) → view x ≡ view y → x ≡ y
 injective_by view back returns x y p = sym (returns x) ∙ ap back p ∙ returns y
 
--- The views that contracts use: what a search found, and which match a search for tokens gave.
-abbrev found_back : Option ℕ → Found
-found_back none = Nothing
-found_back (some id) = At id
+-- The views that contracts use: the answer for C in place of the counts or the refusal that a call gives.
+abbrev refusal_named : ℕ → ℕ → Refusal
+refusal_named number place =
+    cond (eqb number 1) WrongSize (cond (eqb number 2) OffsetsAstray (cond (eqb number 3) BadPiece (cond (eqb number 4) BadLookup
+    (cond (eqb number 5) BadFallback (cond (eqb number 6) BadRow (cond (eqb number 7) BadToken (cond (eqb number 8) BadStep
+    (cond (eqb number 9) (BadText place) (cond (eqb number 10) NoRawPath (cond (eqb number 11) ScratchTooShort ResultTooShort))))))))))
 
-found_returns : (f : Found) → found_back (found_id f) ≡ f
-found_returns (At id) = refl
-found_returns Nothing = refl
+refusal_returns : (r : Refusal) → refusal_named (number_of r) (place_named r) ≡ r
+refusal_returns WrongSize = refl
+refusal_returns OffsetsAstray = refl
+refusal_returns BadPiece = refl
+refusal_returns BadLookup = refl
+refusal_returns BadFallback = refl
+refusal_returns BadRow = refl
+refusal_returns BadToken = refl
+refusal_returns BadStep = refl
+refusal_returns (BadText place) = refl
+refusal_returns NoRawPath = refl
+refusal_returns ScratchTooShort = refl
+refusal_returns ResultTooShort = refl
 
-pub found_id_injective : (x y : Found) → found_id x ≡ found_id y → x ≡ y
-found_id_injective = injective_by found_id found_back found_returns
+abbrev pub result_named : {A : Type 0} → (Answer → A) → Answer → Result A Refusal
+result_named given a = cond (eqb a.number 0) (Ok (given a)) (Err (refusal_named a.number a.place))
 
-abbrev sought_back : Option Match → Sought
-sought_back none = sought.Missing
-sought_back (some match) = sought.Found match.place match.row
+refused_returns : {A : Type 0} (given : Answer → A) (r : Refusal) → ◌≡◌ {A = Result A Refusal} (result_named given (refused (number_of r) (place_named r))) (Err r)
+refused_returns given WrongSize = refl
+refused_returns given OffsetsAstray = refl
+refused_returns given BadPiece = refl
+refused_returns given BadLookup = refl
+refused_returns given BadFallback = refl
+refused_returns given BadRow = refl
+refused_returns given BadToken = refl
+refused_returns given BadStep = refl
+refused_returns given (BadText place) = refl
+refused_returns given NoRawPath = refl
+refused_returns given ScratchTooShort = refl
+refused_returns given ResultTooShort = refl
 
-sought_returns : (s : Sought) → sought_back (sought_match s) ≡ s
-sought_returns (sought.Found place row) = refl
-sought_returns sought.Missing = refl
+abbrev counts_named : Answer → Counts
+counts_named a = record { written = a.written; drops = a.drops; skips = a.skips }
 
-pub sought_match_injective : (x y : Sought) → sought_match x ≡ sought_match y → x ≡ y
-sought_match_injective = injective_by sought_match sought_back sought_returns
+answer_returns : (r : Result Counts Refusal) → result_named counts_named (answer_of r) ≡ r
+answer_returns (Ok counts) = refl
+answer_returns (Err refusal) = refused_returns counts_named refusal
+
+pub answer_of_injective : (x y : Result Counts Refusal) → answer_of x ≡ answer_of y → x ≡ y
+answer_of_injective = injective_by answer_of (result_named counts_named) answer_returns
+
+checked_returns : (r : Result ⊤ Refusal) → result_named (λ a. tt) (checked r) ≡ r
+checked_returns (Ok done_) = refl
+checked_returns (Err refusal) = refused_returns (λ a. tt) refusal
+
+pub checked_injective : (x y : Result ⊤ Refusal) → checked x ≡ checked y → x ≡ y
+checked_injective = injective_by checked (result_named (λ a. tt)) checked_returns
 
 -- A kind of split and the words of its crossings, shown field by field.
 abbrev pub noting_of : Split × List ℕ → Noting

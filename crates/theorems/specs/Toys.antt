@@ -1,10 +1,14 @@
 -- The toy models T and U (rules 14.1 and 14.2).
-use Rattle.std.specs.Prelude.{ℕ, false, List, [], ◌∷◌, ◌++◌, replicate}
+use Rattle.std.specs.Prelude.{ℕ, Bool, false, Option, Some, List, [], ◌∷◌, ◌++◌, replicate}
 use Rattle.model.specs.Model.{Model, TokenList, no_id}
 use Rattle.model.specs.declared.Step.{Step}
 use Rattle.model.specs.declared.Step.TheVariants.{Strip}
-use Rattle.model.specs.declared.Metaspace.TheVariants.{Present}
+use Rattle.model.specs.declared.Metaspace.{Metaspace}
 use Rattle.model.specs.declared.PrependScheme.TheVariants.{Always}
+
+-- Metaspace that puts a mark in front of each section.
+abbrev pub always : Bool → Option Metaspace
+always split = Some (record { prepend = Always; split = split })
 
 unfoldable pub no_tokens : TokenList
 no_tokens = record { bytes = []; offsets = 0 ∷ []; ids = []; lstrip = []; rstrip = [] }
@@ -34,7 +38,7 @@ T =
       step_bytes = [];
       steps = no_steps;
       step_count = 0;
-      metaspace = Present Always false;
+      metaspace = always false;
     }
 
 -- T with the piece `b`, mark, `a` as id 8 and its row.

@@ -1,6 +1,5 @@
 -- Units never change the ids: what is promised, and the words it is said in. Proved in proofs/RunLaws.antt and proofs/SameIds.antt.
-use Rattle.std.specs.Prelude.{ℕ, suc, ◌≡◌, Bool, false, cond, ◌&&◌, List, [], ◌∷◌, ◌++◌, map, eqb, ltb, length, drop}
-use Rattle.std.proofs.Math.Option.{some}
+use Rattle.std.specs.Prelude.{ℕ, suc, ◌≡◌, Bool, false, cond, ◌&&◌, List, [], ◌∷◌, ◌++◌, map, eqb, ltb, length, drop, Some}
 use Rattle.utf8.specs.Lists.{any, filter, join, join_map, below, between}
 use Rattle.model.specs.Model.{Model, piece, pieces_of, row_of, merge_rows}
 use Rattle.model.specs.Mark.{mark, starts_with_mark}
@@ -43,7 +42,7 @@ pub record Turn (m : Model) (units after : List (List ℕ)) : Type 0 where
   pub right : List (List ℕ)
   pub merge : Candidate
   pub was : units ≡ left ++ unit ∷ right
-  pub next : next_merge (row_of (merge_rows m)) unit ≡ some merge
+  pub next : next_merge (row_of (merge_rows m)) unit ≡ Some merge
   pub is : after ≡ left ++ merged_at merge unit ∷ right
 
 -- A run: turns one after the other, in any order. It has ended where no turn is left.

@@ -1,163 +1,110 @@
 // T and U through the model check, and for each of the answers 1 to 8 a copy of T that is broken in one place. Writes a line for
 // each: what was checked, and the answer's number.
-use crate::tables::{
-    LEFT_T, LEFT_U, LOOKUP_U, OFFSETS_U, PIECES_U, RANK_T, RANK_U, RESULT_U, RIGHT_T, RIGHT_U,
-    TOKEN, t_fallback, t_lookup, t_offsets, t_pieces, t_result, t_step,
-};
-use model::{Metaspace, PrependScheme, Step};
+use crate::tables::{N_ALONE, OFFSETS_T, PIECES_T, fallback, t, u};
+use model::{AddedTokens, Answer, MergeRows, Model, Span, Step, StepList, Strings};
 use std::io;
 
-fn tell(rt: &impl Print, name: &[u8], number: u32) -> io::Result<()> {
-    rt.write_all(name)?;
-    rt.write_all(b": ")?;
-    rt.print(number)?;
-    rt.write_all(b"\n")
+fn tell(rt: &impl Print, name: &str, model: &Model<'_>) -> io::Result<()> {
+    println!(rt; "{name}: {}", Answer::from(model::check(model)).number)
 }
 
-// Checks a model with metaspace Always that does not split, one token in its first list and none in its second, and one step.
-fn check_and_tell(
+// The first `len` bytes of a letter of two, in front.
+fn prepend(len: u32) -> StepList<'static> {
+    StepList {
+        bytes: b"\xC3\xA9",
+        list: [Step::Prepend(Span { place: 0, len }); 16],
+        count: 1,
+    }
+}
+
+fn broken_offsets(rt: &impl Print, t: &Model<'_>, name: &str, end: u32) -> io::Result<()> {
+    let mut offsets = OFFSETS_T;
+    offsets[8] = end;
+    let pieces = Strings {
+        offsets: &offsets,
+        ..t.pieces
+    };
+    tell(rt, name, &Model { pieces, ..*t })
+}
+
+fn broken_pieces(rt: &impl Print, t: &Model<'_>) -> io::Result<()> {
+    let mut bytes = PIECES_T;
+    bytes[2] = 0x20;
+    let pieces = Strings {
+        bytes: &bytes,
+        ..t.pieces
+    };
+    tell(rt, "T, but the mark is cut short", &Model { pieces, ..*t })
+}
+
+fn broken_fallback(rt: &impl Print, t: &Model<'_>) -> io::Result<()> {
+    let mut fallback = fallback();
+    fallback[0xA9] = 6;
+    let model = Model {
+        fallback: &fallback,
+        ..*t
+    };
+    tell(rt, "T, but A9 falls back to the piece C3", &model)
+}
+
+fn broken_token(
     rt: &impl Print,
-    name: &[u8],
-    pieces: &[u8],
-    offsets: &[u32],
-    lookup: &[u32],
-    fallback: &[u32],
-    left: &[u32],
-    right: &[u32],
-    res: &[u32],
-    rank: &[u32],
-    token: &[u8],
-    step: Step,
+    t: &Model<'_>,
+    name: &str,
+    contents: Strings<'_>,
 ) -> io::Result<()> {
-    let token_offsets = [0, (token.len() % 256) as u32];
-    let ids = [50u32];
-    let flags = [false];
-    let no_offsets = [0u32];
-    let no_ids = [0u32; 0];
-    let no_flags = [false; 0];
-    let steps = [step; 16];
-    let answer = model::check(
-        pieces,
-        offsets,
-        lookup,
-        fallback,
-        left,
-        right,
-        res,
-        rank,
-        token,
-        &token_offsets,
-        &ids,
-        &flags,
-        &flags,
-        b"",
-        &no_offsets,
-        &no_ids,
-        &no_flags,
-        &no_flags,
-        b"\xC3\xA9",
-        steps,
-        1,
-        Metaspace::Present {
-            prepend: PrependScheme::Always,
-            split: false,
-        },
-    );
-    tell(rt, name, answer.number)
+    let first = AddedTokens {
+        contents,
+        ..N_ALONE
+    };
+    tell(rt, name, &Model { first, ..*t })
 }
 
-// T with a token in its first list, and broken where `fault` says.
-fn check_t(rt: &impl Print, name: &[u8], fault: u32, token: &[u8]) -> io::Result<()> {
-    let pieces = t_pieces(fault);
-    let offsets = t_offsets(fault);
-    let lookup = t_lookup(fault);
-    let fallback = t_fallback(fault);
-    let left = LEFT_T;
-    let right = RIGHT_T;
-    let result = t_result(fault);
-    let rank = RANK_T;
-    check_and_tell(
-        rt,
-        name,
-        &pieces,
-        &offsets,
-        &lookup,
-        &fallback,
-        &left,
-        &right,
-        &result,
-        &rank,
-        token,
-        t_step(fault),
-    )
+fn broken(rt: &impl Print, t: &Model<'_>) -> io::Result<()> {
+    broken_offsets(rt, t, "T, but a piece of 287 bytes", 300)?;
+    broken_offsets(rt, t, "T, but an offset past the end", 15)?;
+    broken_pieces(rt, t)?;
+    let lookup = Model {
+        lookup: &[1, 5, 3, 2, 7, 6, 0, 4],
+        ..*t
+    };
+    tell(rt, "T, but two lookup entries change places", &lookup)?;
+    broken_fallback(rt, t)?;
+    let rows = MergeRows {
+        result: &[3, 3],
+        ..t.rows
+    };
+    tell(rt, "T, but the first row gives ab", &Model { rows, ..*t })?;
+    let no_text = Strings {
+        bytes: b"<\xFF>",
+        offsets: &[0, 3],
+    };
+    broken_token(rt, t, "T, but the token is no text", no_text)?;
+    let empty = Strings {
+        bytes: b"",
+        offsets: &[0, 0],
+    };
+    broken_token(rt, t, "T, but the token is empty", empty)?;
+    let half = Model {
+        steps: prepend(1),
+        ..*t
+    };
+    tell(rt, "T, but the step string is half a letter", &half)
 }
 
-fn check_u(rt: &impl Print) -> io::Result<()> {
-    let pieces = PIECES_U;
-    let offsets = OFFSETS_U;
-    let lookup = LOOKUP_U;
-    let fallback = t_fallback(0);
-    let left = LEFT_U;
-    let right = RIGHT_U;
-    let result = RESULT_U;
-    let rank = RANK_U;
-    let token = TOKEN;
-    check_and_tell(
-        rt,
-        b"U",
-        &pieces,
-        &offsets,
-        &lookup,
-        &fallback,
-        &left,
-        &right,
-        &result,
-        &rank,
-        &token,
-        t_step(0),
-    )
+// A model with a token in its first list and a step.
+fn furnished(model: Model<'_>) -> Model<'_> {
+    Model {
+        first: N_ALONE,
+        steps: prepend(2),
+        ..model
+    }
 }
 
 pub(crate) fn run(rt: &impl Print) -> io::Result<()> {
-    check_t(rt, b"T", 0, b"<n>")?;
-    check_u(rt)?;
-    check_t(
-        rt,
-        b"T, but a piece of 287 bytes",
-        model::WRONG_SIZE,
-        b"<n>",
-    )?;
-    check_t(
-        rt,
-        b"T, but an offset past the end",
-        model::OFFSETS_ASTRAY,
-        b"<n>",
-    )?;
-    check_t(
-        rt,
-        b"T, but the mark is cut short",
-        model::BAD_PIECE,
-        b"<n>",
-    )?;
-    check_t(
-        rt,
-        b"T, but two lookup entries change places",
-        model::BAD_LOOKUP,
-        b"<n>",
-    )?;
-    check_t(
-        rt,
-        b"T, but A9 falls back to the piece C3",
-        model::BAD_FALLBACK,
-        b"<n>",
-    )?;
-    check_t(rt, b"T, but the first row gives ab", model::BAD_ROW, b"<n>")?;
-    check_t(rt, b"T, but the token is no text", 0, b"<\xFF>")?;
-    check_t(rt, b"T, but the token is empty", 0, b"")?;
-    check_t(
-        rt,
-        b"T, but the step string is half a letter",
-        model::BAD_STEP,
-        b"<n>",
-    )
+    let fallback = fallback();
+    let t = furnished(t(&fallback));
+    tell(rt, "T", &t)?;
+    tell(rt, "U", &furnished(u(&fallback)))?;
+    broken(rt, &t)
 }

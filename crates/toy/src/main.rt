@@ -8,6 +8,7 @@ mod encoding;
 mod fragmenting;
 mod normalising;
 mod tables;
+mod telling;
 
 use std::io;
 

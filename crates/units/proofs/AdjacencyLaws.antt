@@ -202,10 +202,14 @@ pub one_bit : (k : ℕ) → k < 64 → (1 * 2 ^ k) % 18446744073709551616 ≡ 2 
 one_bit k h = shl_exact 1 k 64 (omega arith) (omega arith) ∙ omega arith
 
 module _ (bytes rows : List ℕ) (i : ℕ) where
-  pub noted-next : i + 1 < length bytes → note_all (drop i (neighbours bytes)) rows ≡ note_all (drop (i + 1) (neighbours bytes)) (note (get_or bytes i 0, get_or bytes (i + 1) 0) rows)
+  pub noted-next : (next : ℕ) → next ≡ i + 1 → next < length bytes
+      → note_all (drop i (neighbours bytes)) rows ≡ note_all (drop next (neighbours bytes)) (note (get_or bytes i 0, get_or bytes next 0) rows)
   unfolding note_all
-  noted-next h =
-      ap (λ (ps : List (ℕ × ℕ)). note_all ps rows) (drop-cons (neighbours bytes) i (0, 0) (omega (arith, length-neighbours bytes)) ∙ ap₂ {C = List (ℕ × ℕ)} ◌∷◌ (get_or_neighbours bytes i 0 0 h) (ap (λ (k : ℕ). drop k (neighbours bytes)) (sym (add-one i))))
+  noted-next next e h = rw e (here (omega arith))
+    where
+      here : i + 1 < length bytes → note_all (drop i (neighbours bytes)) rows ≡ note_all (drop (i + 1) (neighbours bytes)) (note (get_or bytes i 0, get_or bytes (i + 1) 0) rows)
+      here h =
+          ap (λ (ps : List (ℕ × ℕ)). note_all ps rows) (drop-cons (neighbours bytes) i (0, 0) (omega (arith, length-neighbours bytes)) ∙ ap₂ {C = List (ℕ × ℕ)} ◌∷◌ (get_or_neighbours bytes i 0 0 h) (ap (λ (k : ℕ). drop k (neighbours bytes)) (sym (add-one i))))
 
   pub noted-ended : length bytes ≤ i + 1 → note_all (drop i (neighbours bytes)) rows ≡ rows
   unfolding note_all

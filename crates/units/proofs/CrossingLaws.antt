@@ -9,7 +9,7 @@ use mathlib.Core.List.{List, [], ◌∷◌}
 use borrow.Author.Tests.{lt-ltb, ltb-true, ltb-false, eqb-true, eqb-false, ne_eqb}
 use lib.Dec.{eqb, ltb}
 use lib.ListN.{length, get_or, take, drop, length-drop}
-use lib.Seq.{drop-drop, get_or-drop, get_or-take, take-length, slice}
+use lib.Seq.{drop-drop, get_or-drop, get_or-take}
 use Rattle.utf8.specs.Lists.{any, filter, below, count_from, starts_with}
 use Rattle.utf8.specs.Chars.{valid}
 use Rattle.utf8.proofs.Tests.{either, clash, and_left, and_right, or_right}
@@ -64,15 +64,6 @@ module _ (bytes : List ℕ) where
 -- ---- the mark of a crossing
 
 module _ (bytes : List ℕ) (p : ℕ) where
-  module _ (w : ℕ) (rest : List ℕ) (e : rest ≡ drop p bytes) (f : w ≡ mark_width false rest) where
-    pub uncrossed_no_mark : 0 < p → w ≡ 0 → crosses_at bytes p ≡ false
-    unfolding crosses_at starts_with_mark
-    uncrossed_no_mark h z = rw (← e, ← f, z, lt-ltb 0 p h)
-
-    pub crosses_by : 0 < p → (w ≡ 0 → ⊥) → not (ends_with_mark false (take p bytes)) ≡ crosses_at bytes p
-    unfolding crosses_at starts_with_mark
-    crosses_by h n = rw (← e, ← f, lt-ltb 0 w (omega arith), lt-ltb 0 p h)
-
   crossing_mark : crosses_at bytes p ≡ true → starts_with_mark false (drop p bytes) ≡ true
   unfolding crosses_at
   crossing_mark e =
@@ -97,15 +88,6 @@ module _ (bytes : List ℕ) (p : ℕ) where
   uncrossed_byte n = ⊎_elim (λ t. clash (no_mark_elsewhere n) (crossing_mark t)) (λ f. f) (either (crosses_at bytes p))
 
 -- ---- marks and spaces beside the mark of a crossing
-
-module _ (whole : List ℕ) (p : ℕ) (pre : List ℕ) (is-pre : pre ≡ slice 0 p whole) where
-  pub tangled-before : holds_mark pre ≡ true → is_tangled (crossing_at whole p) ≡ true
-  unfolding is_tangled crossing_at
-  tangled-before e = rw (← is-pre, e)
-
-  pub tangled_behind : (post : List ℕ) → post ≡ slice (p + 3) (length whole) whole → holds_mark pre ≡ false → holds_mark post ≡ is_tangled (crossing_at whole p)
-  unfolding is_tangled crossing_at
-  tangled_behind post is-post e = rw (← is-pre, e, is-post, take-length)
 
 plain-mark : (l : List ℕ) → starts_with_mark false l ≡ true → starts_with mark l ≡ true
 unfolding starts_with_mark mark_width

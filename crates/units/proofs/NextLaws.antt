@@ -4,7 +4,7 @@ use native.Mathlib.Numerals.{add-one}
 use native.Mathlib.Omega.{arith}
 use mathlib.Core.Path.{◌≡◌, refl, ap, ◌∙◌}
 use mathlib.Core.Bool.{Bool, true, false}
-use mathlib.Core.Option.{none, some}
+use Rattle.std.specs.Prelude.{None, Some}
 use mathlib.Core.List.{List, [], ◌∷◌, ◌++◌}
 use lib.ListN.{length}
 use lib.Seq.{slice}
@@ -48,8 +48,8 @@ module _ (cuts : ℕ → Bool) (section : List ℕ) where
 -- ---- the first of a row of places that pass
 
 data First (cuts : ℕ → Bool) (k n : ℕ) : Type 0 where
-  nothing : find cuts (count_from k n) ≡ none → filter cuts (count_from k n) ≡ [] → First cuts k n
-  found : (p : ℕ) → find cuts (count_from k n) ≡ some p → k ≤ p → p < k + n → cuts p ≡ true
+  nothing : find cuts (count_from k n) ≡ None → filter cuts (count_from k n) ≡ [] → First cuts k n
+  found : (p : ℕ) → find cuts (count_from k n) ≡ Some p → k ≤ p → p < k + n → cuts p ≡ true
       → filter cuts (count_from k n) ≡ p ∷ filter cuts (count_from (suc p) (k + n - suc p)) → First cuts k n
 
 module _ (cuts : ℕ → Bool) where

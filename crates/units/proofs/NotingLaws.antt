@@ -18,11 +18,11 @@ use Rattle.utf8.proofs.Places.{any-one, any_append, length-numbered, get_or_numb
 use Rattle.model.specs.Answers.{zeros}
 use Rattle.model.specs.Model.{piece}
 use Rattle.model.specs.declared.Metaspace.{Metaspace}
-use Rattle.model.specs.declared.Metaspace.TheVariants.{Absent}
+use Rattle.std.specs.Prelude.{Option, None}
 use Rattle.units.specs.Kinds.{Crossing, crosses_at, crossing_at, crossings_of, crossings, is_tangled, splits, word_split}
 use Rattle.units.specs.Derived.{Place, places_within, places_in, crossing_places, noted_of, place_words, noted_words, Noting, noting}
 use Rattle.units.specs.inner.Read.{crossing_of}
-use Rattle.units.specs.declared.WordSplit.TheVariants.{SpaceRuns, EveryMark, None}
+use Rattle.units.specs.declared.WordSplit.TheVariants as split
 use Rattle.units.specs.declared.Crossed.TheVariants.{Nowhere, At, Tangled}
 use Rattle.units.specs.inner.Crossed.{crossed, no_words, noted_at}
 use Rattle.units.proofs.CrossingLaws.{none_within, one-within, TangledFirst, tangled-first, tangled-within}
@@ -125,20 +125,20 @@ noted-one_more places id place h =
 -- ---- the kind by the places
 
 module _ (pieces : List (List ℕ)) where
-  kind_tests : word_split (crossings pieces) Absent ≡ cond (any (tangled_at pieces) (crossing_places pieces) || ltb 32 (length (crossing_places pieces))) None SpaceRuns
+  kind_tests : word_split (crossings pieces) None ≡ cond (any (tangled_at pieces) (crossing_places pieces) || ltb 32 (length (crossing_places pieces))) split.None split.SpaceRuns
   unfolding word_split splits
   kind_tests = rw (tangled-crossings pieces, count-crossings pieces)
 
-  no_kind : (w : List ℕ) → w ≡ no_words → (any (tangled_at pieces) (crossing_places pieces) || ltb 32 (length (crossing_places pieces))) ≡ true → ◌≡◌ {A = Noting} (record { kind = None; count = 0; noted = w }) (noting pieces (word_split (crossings pieces) Absent))
+  no_kind : (w : List ℕ) → w ≡ no_words → (any (tangled_at pieces) (crossing_places pieces) || ltb 32 (length (crossing_places pieces))) ≡ true → ◌≡◌ {A = Noting} (record { kind = split.None; count = 0; noted = w }) (noting pieces (word_split (crossings pieces) None))
   unfolding noting noted_of noted_words no_words
   no_kind w z e =
-      let none : word_split (crossings pieces) Absent ≡ None = kind_tests ∙ rw e in
+      let none : word_split (crossings pieces) None ≡ split.None = kind_tests ∙ rw e in
       rw (none, z)
 
-  runs : (n : ℕ) (words : List ℕ) → (any (tangled_at pieces) (crossing_places pieces) || ltb 32 (length (crossing_places pieces))) ≡ false → n ≡ length (crossing_places pieces) → words ≡ noted_words (crossing_places pieces) → ◌≡◌ {A = Noting} (record { kind = SpaceRuns; count = n; noted = words }) (noting pieces (word_split (crossings pieces) Absent))
+  runs : (n : ℕ) (words : List ℕ) → (any (tangled_at pieces) (crossing_places pieces) || ltb 32 (length (crossing_places pieces))) ≡ false → n ≡ length (crossing_places pieces) → words ≡ noted_words (crossing_places pieces) → ◌≡◌ {A = Noting} (record { kind = split.SpaceRuns; count = n; noted = words }) (noting pieces (word_split (crossings pieces) None))
   unfolding noting noted_of
   runs n words e c w =
-      let space-runs : word_split (crossings pieces) Absent ≡ SpaceRuns = kind_tests ∙ rw e in
+      let space-runs : word_split (crossings pieces) None ≡ split.SpaceRuns = kind_tests ∙ rw e in
       rw (space-runs, c, w)
 
 -- ---- a loop over the pieces: n places were noted in words, and those of the pieces from id on are left
@@ -202,19 +202,19 @@ module _ (pieces : List (List ℕ)) (id n : ℕ) (words : List ℕ) (s : Notes p
       let here : get_or all n (id, p) ≡ (id, p) = cc front in
       any-one (tangled_at pieces) all n (id, p) (front-within all n (id, p) r f) (ap (tangled_at pieces) here ∙ t)
 
-  pub notes_tangled : (w : List ℕ) → w ≡ no_words → crossed (get_or pieces id []) ≡ Tangled → ◌≡◌ {A = Noting} (record { kind = None; count = 0; noted = w }) (noting pieces (word_split (crossings pieces) Absent))
+  pub notes_tangled : (w : List ℕ) → w ≡ no_words → crossed (get_or pieces id []) ≡ Tangled → ◌≡◌ {A = Noting} (record { kind = split.None; count = 0; noted = w }) (noting pieces (word_split (crossings pieces) None))
   notes_tangled w z e = go (tangled-within (get_or pieces id []) e)
     where
-      go : TangledFirst (get_or pieces id []) → ◌≡◌ {A = Noting} (record { kind = None; count = 0; noted = w }) (noting pieces (word_split (crossings pieces) Absent))
+      go : TangledFirst (get_or pieces id []) → ◌≡◌ {A = Noting} (record { kind = split.None; count = 0; noted = w }) (noting pieces (word_split (crossings pieces) None))
       go (tangled-first p ps f t) = no_kind pieces w z (ap (λ (b : Bool). b || ltb 32 (length (crossing_places pieces))) (some-tangled p (map (λ (q : ℕ). (id, q)) ps ++ join_map places_in (drop (id + 1) (numbered pieces))) (places_of (p ∷ ps) f) t))
 
-  pub notes_full : (w : List ℕ) → w ≡ no_words → (p : ℕ) → n ≡ 32 → crossed (get_or pieces id []) ≡ At p → ◌≡◌ {A = Noting} (record { kind = None; count = 0; noted = w }) (noting pieces (word_split (crossings pieces) Absent))
+  pub notes_full : (w : List ℕ) → w ≡ no_words → (p : ℕ) → n ≡ 32 → crossed (get_or pieces id []) ≡ At p → ◌≡◌ {A = Noting} (record { kind = split.None; count = 0; noted = w }) (noting pieces (word_split (crossings pieces) None))
   notes_full w z p full e =
       let many : 32 < length (crossing_places pieces) = omega (arith, front-within (crossing_places pieces) n (id, p) (join_map places_in (drop (id + 1) (numbered pieces))) (next_place p e)) in
       no_kind pieces w z (or_also (any (tangled_at pieces) (crossing_places pieces)) (lt-ltb 32 (length (crossing_places pieces)) many))
 
 -- all pieces were looked at
-pub notes_ended : (pieces : List (List ℕ)) (id n : ℕ) (words : List ℕ) → Notes pieces id n words → length pieces ≤ id → ◌≡◌ {A = Noting} (record { kind = SpaceRuns; count = n; noted = words }) (noting pieces (word_split (crossings pieces) Absent))
+pub notes_ended : (pieces : List (List ℕ)) (id n : ℕ) (words : List ℕ) → Notes pieces id n words → length pieces ≤ id → ◌≡◌ {A = Noting} (record { kind = split.SpaceRuns; count = n; noted = words }) (noting pieces (word_split (crossings pieces) None))
 notes_ended pieces id n words s h =
     let all = crossing_places pieces in
     let none_left : drop n all ≡ [] = s.rest ∙ ap (join_map places_in) (drop_of_length-le (numbered pieces) {i = id} (omega (arith, length-numbered pieces))) in
@@ -225,11 +225,11 @@ notes_ended pieces id n words s h =
 
 -- ---- the kind by metaspace
 
-module _ (pieces : List (List ℕ)) (metaspace : Metaspace) where
-  pub every_mark : (w : List ℕ) → w ≡ no_words → splits metaspace ≡ true → ◌≡◌ {A = Noting} (record { kind = EveryMark; count = 0; noted = w }) (noting pieces (word_split (crossings pieces) metaspace))
+module _ (pieces : List (List ℕ)) (metaspace : Option Metaspace) where
+  pub every_mark : (w : List ℕ) → w ≡ no_words → splits metaspace ≡ true → ◌≡◌ {A = Noting} (record { kind = split.EveryMark; count = 0; noted = w }) (noting pieces (word_split (crossings pieces) metaspace))
   unfolding noting noted_of noted_words no_words word_split
   every_mark w z e = rw (e, z)
 
-  pub as_without : splits metaspace ≡ false → noting pieces (word_split (crossings pieces) Absent) ≡ noting pieces (word_split (crossings pieces) metaspace)
+  pub as_without : splits metaspace ≡ false → noting pieces (word_split (crossings pieces) None) ≡ noting pieces (word_split (crossings pieces) metaspace)
   unfolding word_split splits
   as_without e = rw e

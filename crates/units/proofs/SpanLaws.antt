@@ -1,19 +1,20 @@
 -- Laws of the span guard: the crossings that words name, one more and the end, and what stands around a mark. Assumes nothing.
-use Prim.Native.Nat.{ℕ, suc, ◌+◌, ◌-◌, ◌≤◌, ◌<◌}
+use Prim.Native.Nat.{ℕ, suc, ◌+◌, ◌-◌, ◌*◌, ◌/◌, ◌≤◌, ◌<◌, min}
 use native.Mathlib.Numerals.{add-one}
 use native.Mathlib.Omega.{arith}
 use mathlib.Core.Path.{◌≡◌, refl, sym, ap, ◌∙◌}
 use mathlib.Core.Bool.{Bool, true, false}
+use mathlib.Core.Logic.{⊎_elim}
 use mathlib.Core.List.{List, [], ◌∷◌}
-use lib.ListN.{length, get_or, take, drop, length-drop, drop_of_length-le}
-use lib.Seq.{drop-cons, drop-drop, take_all, take-nil, take-length, slice}
-use Rattle.utf8.specs.Lists.{any, starts_with, ends_with}
-use Rattle.model.specs.Mark.{mark_width}
+use borrow.Author.Tests.{leb-true, leb-false}
+use lib.Dec.{leb}
+use lib.ListN.{length, get_or, drop, length-drop}
+use lib.Seq.{drop-cons, take-nil}
+use Rattle.utf8.specs.Lists.{any}
+use Rattle.utf8.proofs.Tests.{either}
 use Rattle.model.specs.Model.{piece}
 use Rattle.units.specs.Kinds.{Crossing, crossing_at}
-use Rattle.units.specs.Units.{spanned}
 use Rattle.units.specs.inner.Read.{places_of, crossing_of, named_crossings}
-use Rattle.units.specs.inner.Around.{around}
 
 -- ---- the crossings that words name
 
@@ -24,9 +25,6 @@ few_places (id ∷ []) h = refl
 few_places (id ∷ place ∷ words) h = absurd (omega arith)
 
 module _ (test : Crossing → Bool) (pieces : List (List ℕ)) (words : List ℕ) (count : ℕ) where
-  pub named_start : any test (named_crossings pieces words count) ≡ any test (named_crossings pieces words (count - 0))
-  named_start = let whole : count ≡ count - 0 = omega arith in ap (λ (n : ℕ). any test (named_crossings pieces words n)) whole
-
   module _ (at k : ℕ) where
     named_at : at + 1 < length words → k < count
         → named_crossings pieces (drop at words) (count - k)
@@ -48,44 +46,23 @@ module _ (test : Crossing → Bool) (pieces : List (List ℕ)) (words : List ℕ
     named_next h l e = ap (any test) (named_at h l) ∙ rw e
 
     -- no two words are left
-    pub named_short : length words ≤ at + 1 → any test (named_crossings pieces (drop at words) (count - k)) ≡ false
+    named_short : length words ≤ at + 1 → any test (named_crossings pieces (drop at words) (count - k)) ≡ false
     unfolding named_crossings
     named_short h = rw (few_places (drop at words) (omega (arith, length-drop at words)), take-nil (count - k))
 
     -- all were looked at
-    pub named_ended : count ≤ k → any test (named_crossings pieces (drop at words) (count - k)) ≡ false
+    named_ended : count ≤ k → any test (named_crossings pieces (drop at words) (count - k)) ≡ false
     unfolding named_crossings
     named_ended h = let none : count - k ≡ 0 = omega arith in rw none
+
+  pub named-none : (k : ℕ) → min count (length words / 2) ≤ k → any test (named_crossings pieces (drop (2 * k) words) (count - k)) ≡ false
+  named-none k h =
+      ⊎_elim
+      (λ e. named_ended (2 * k) k (leb-true count k e))
+      (λ e. let more : k < count = leb-false count k e in named_short (2 * k) k (omega arith))
+      (either (leb count k))
 
 -- a piece that was read at the place of its id
 pub crossing_read : (pieces : List (List ℕ)) (id place w : ℕ) (bytes : List ℕ) → w ≡ id → bytes ≡ get_or pieces w [] → crossing_at bytes place ≡ crossing_of pieces (id, place)
 unfolding crossing_of piece
 crossing_read pieces id place w bytes e f = rw (f, e)
-
--- ---- a crossing and what stands around a mark
-
-module _ (whole before after : List ℕ) (place at : ℕ) (e : at ≡ place) (pre : List ℕ) (is-pre : pre ≡ slice 0 at whole) where
-  pub apart-before : ends_with pre before ≡ false → around before after (crossing_at whole place) ≡ false
-  unfolding around crossing_at
-  apart-before f = rw (← e, ← is-pre, f)
-
-  pub around_by : (post : List ℕ) → post ≡ slice (at + 3) (length whole) whole → ends_with pre before ≡ true → starts_with post after ≡ around before after (crossing_at whole place)
-  unfolding around crossing_at
-  around_by post is-post f =
-      let rest : post ≡ drop (at + 3) whole = is-post ∙ ap (drop (at + 3)) (take-length whole) in
-      rw (← e, ← is-pre, f, rest)
-
-module _ (section : List ℕ) (p : ℕ) (raw : Bool) where
-  pub behind_past : length section ≤ p → slice (length section) (length section) section ≡ drop (p + mark_width raw (drop p section)) section
-  behind_past h =
-      drop_of_length-le (take (length section) section) {i = length section} (omega (arith, ap length (take-length section)))
-      ∙ sym (drop_of_length-le section {i = p + mark_width raw (drop p section)} (omega arith))
-
-  pub behind_mark : (rest : List ℕ) (w : ℕ) → rest ≡ drop p section → w ≡ mark_width raw rest → slice w (length section) rest ≡ drop (p + mark_width raw (drop p section)) section
-  behind_mark rest w e f =
-      ap (drop w) (take_all (length section) rest (omega (arith, ap length e, length-drop p section)))
-      ∙ rw (e, f, e) (drop-drop (mark_width raw (drop p section)) p section)
-
-  pub spanned_by : (noted : List Crossing) → any (around (take p section) (drop (p + mark_width raw (drop p section)) section)) noted ≡ spanned noted raw section p
-  unfolding spanned around
-  spanned_by noted = refl

@@ -6,13 +6,13 @@ use mathlib.Core.Logic.{⊎_elim}
 use mathlib.Core.List.{List, [], ◌∷◌}
 use borrow.Author.Tests.{lt-ltb, eqb-true, eq-eqb}
 use lib.Dec.{eqb, ltb}
-use lib.ListN.{length, get_or, take, drop, drop_of_length-le, get_or-eq_default}
-use lib.Seq.{drop-cons, take-length, slice}
+use lib.ListN.{length, get_or, drop, drop_of_length-le, get_or-eq_default}
+use lib.Seq.{drop-cons}
 use Rattle.utf8.specs.Lists.{any}
 use Rattle.utf8.proofs.Tests.{either, clash, or_left, or_right}
-use Rattle.model.specs.Mark.{mark, space, mark_width, starts_with_mark, ends_with_mark}
+use Rattle.model.specs.Mark.{mark, space, mark_width, starts_with_mark}
 use Rattle.units.specs.Kinds.{Crossing, is_none}
-use Rattle.units.specs.Units.{spanned, mark_cuts, punctuation, byte_before, punctuation_cuts, begins_unit}
+use Rattle.units.specs.Units.{mark_cuts, punctuation, byte_before, punctuation_cuts, begins_unit}
 use Rattle.units.specs.declared.WordSplit.{WordSplit}
 use Rattle.units.specs.declared.WordSplit.TheVariants.{SpaceRuns, EveryMark, None}
 use Rattle.units.specs.inner.Around.{starters}
@@ -39,10 +39,6 @@ module _ (raw : Bool) (section : List ℕ) (p : ℕ) where
   pub no_mark_byte : p < length section → eqb (get_or section p 0) 0xE2 ≡ false → eqb (get_or section p 0) 0x20 ≡ false → mark_width raw (drop p section) ≡ 0
   no_mark_byte h e f = ap (mark_width raw) (drop-cons section p 0 h) ∙ no_mark_of raw (get_or section p 0) (drop (suc p) section) (other_way (get_or section p 0) 0xE2 e) (other_way (get_or section p 0) 0x20 f)
 
-  -- the width that was measured on the rest of the section
-  pub width_at : (rest : List ℕ) (w : ℕ) → rest ≡ slice p (length section) section → w ≡ mark_width raw rest → w ≡ mark_width raw (drop p section)
-  width_at rest w e f = f ∙ ap (mark_width raw) (e ∙ ap (drop p) (take-length section))
-
 punctuation_no_mark : (b : ℕ) → any (eqb b) punctuation ≡ true → (m : ℕ) → any (eqb m) punctuation ≡ false → eqb b m ≡ false
 punctuation_no_mark b e m f = ⊎_elim (λ t. clash f (ap (λ (x : ℕ). any (eqb x) punctuation) (sym (eqb-true b m t)) ∙ e)) (λ g. g) (either (eqb b m))
 
@@ -54,23 +50,6 @@ module _ (noted : List Crossing) (raw : Bool) (section : List ℕ) (p : ℕ) whe
   uncut_no_mark SpaceRuns e = rw e
   uncut_no_mark EveryMark e = rw e
   uncut_no_mark None e = refl
-
-  module _ (kind : WordSplit) where
-    pub uncut_none : kind ≡ None → mark_cuts kind noted raw section p ≡ false
-    unfolding mark_cuts
-    uncut_none e = rw e
-
-    pub cut_every : kind ≡ EveryMark → 0 < mark_width raw (drop p section) → mark_cuts kind noted raw section p ≡ true
-    unfolding mark_cuts starts_with_mark
-    cut_every e h = rw (e, lt-ltb 0 (mark_width raw (drop p section)) h)
-
-    pub uncut_run : kind ≡ SpaceRuns → 0 < mark_width raw (drop p section) → ends_with_mark raw (take p section) ≡ true → mark_cuts kind noted raw section p ≡ false
-    unfolding mark_cuts starts_with_mark
-    uncut_run e h f = rw (e, lt-ltb 0 (mark_width raw (drop p section)) h, f)
-
-    pub cut_unspanned : kind ≡ SpaceRuns → 0 < mark_width raw (drop p section) → ends_with_mark raw (take p section) ≡ false → not (spanned noted raw section p) ≡ mark_cuts kind noted raw section p
-    unfolding mark_cuts starts_with_mark
-    cut_unspanned e h f = rw (e, lt-ltb 0 (mark_width raw (drop p section)) h, f)
 
 -- ---- punctuation
 

@@ -3,6 +3,8 @@
 
 #![tactic(auto)]
 
+use model::Strings;
+
 pub mod adjacency;
 pub mod crossings;
 pub mod cut;
@@ -47,8 +49,13 @@ pub enum RawPrepend {
     GuardedFirst,
 }
 
+// What the sections of a model are cut by.
 #[derive(Clone, Copy)]
-pub enum RawPath {
-    Absent,
-    Present(RawPrepend),
+pub struct Cutter<'a> {
+    pub kind: WordSplit,
+    pub pieces: Strings<'a>,
+    // Two words for each of the first `count` crossings: a piece's id, and the place of its mark.
+    pub noted: &'a [u32],
+    pub count: usize,
+    pub adjacency: &'a [u64],
 }

@@ -1,64 +1,45 @@
 // The raw path.
 ghost use Rattle.std.specs.Prelude.{◌≡◌, take};
-ghost use Rattle.units.specs.Kinds.{is_prepend_mark, is_space_replace, is_present, prepend_of, raw_path_of};
+ghost use Rattle.units.specs.Kinds.{is_prepend_mark, is_space_replace, prepend_of, raw_path_of};
 ghost use Rattle.units.specs.inner.Path.{raw_path_by};
 
 use crate::crossings::metaspace_splits;
 use crate::cut::divides;
-use crate::{RawPath, RawPrepend, WordSplit};
-use model::compare::equal;
+use crate::{RawPrepend, WordSplit};
 use model::mark::MARK;
 use model::tables::string_of;
-use model::{Metaspace, PrependScheme, Step};
+use model::{Metaspace, PrependScheme, Step, StepList};
 
+#[tactic(auto, unfolding(crate::specs::Kinds::is_prepend_mark, model::specs::Mark::mark))]
 fn is_prepend_mark(step_bytes: &[u8], step: Step) -> bool
     ensures { result ≡ is_prepend_mark step_bytes.now step }
 {
     match step {
-        Step::Prepend(content) => equal(string_of(step_bytes, content), &MARK),
-        Step::Replace {
-            pattern: _,
-            content: _,
-        } => false,
-        Step::CollapseSpaces { content: _ } => false,
-        Step::Strip { left: _, right: _ } => false,
+        Step::Prepend(content) => string_of(step_bytes, content) == MARK.as_slice(),
+        _ => false,
     }
 }
 
+#[tactic(auto, unfolding(crate::specs::Kinds::is_space_replace, model::specs::Mark::mark, model::specs::Mark::space))]
 fn is_space_replace(step_bytes: &[u8], step: Step) -> bool
     ensures { result ≡ is_space_replace step_bytes.now step }
 {
     match step {
-        Step::Prepend(_) => false,
         Step::Replace { pattern, content } => {
-            if !equal(string_of(step_bytes, pattern), &[0x20]) {
-                return false;
-            }
-            equal(string_of(step_bytes, content), &MARK)
+            string_of(step_bytes, pattern) == b" ".as_slice()
+                && string_of(step_bytes, content) == MARK.as_slice()
         }
-        Step::CollapseSpaces { content: _ } => false,
-        Step::Strip { left: _, right: _ } => false,
+        _ => false,
     }
 }
 
-fn is_present(metaspace: Metaspace) -> bool
-    ensures { result ≡ is_present metaspace }
-{
-    match metaspace {
-        Metaspace::Absent => false,
-        Metaspace::Present {
-            prepend: _,
-            split: _,
-        } => true,
-    }
-}
-
-fn prepend_of(metaspace: Metaspace) -> RawPrepend
+#[tactic(auto, unfolding(crate::specs::Kinds::prepend_of, crate::specs::Kinds::prepend_by))]
+fn prepend_of(metaspace: Option<Metaspace>) -> RawPrepend
     ensures { result ≡ prepend_of metaspace }
 {
     match metaspace {
-        Metaspace::Absent => RawPrepend::Never,
-        Metaspace::Present { prepend, split: _ } => match prepend {
+        None => RawPrepend::Never,
+        Some(metaspace) => match metaspace.prepend {
             PrependScheme::Never => RawPrepend::Never,
             PrependScheme::Always => RawPrepend::GuardedAlways,
             PrependScheme::First => RawPrepend::GuardedFirst,
@@ -67,54 +48,34 @@ fn prepend_of(metaspace: Metaspace) -> RawPrepend
 }
 
 // The raw path that the steps and metaspace alone would give.
-fn path_of(step_bytes: &[u8], steps: [Step; 16], step_count: usize, metaspace: Metaspace) -> RawPath
-    ensures { result ≡ raw_path_of step_bytes.now (take step_count steps) metaspace }
+#[tactic(auto, unfolding(crate::specs::Kinds::is_present), using(crate::proofs::RawLaws::path_none, crate::proofs::RawLaws::path_more))]
+fn path_of(step_bytes: &[u8], steps: &[Step], metaspace: Option<Metaspace>) -> Option<RawPrepend>
+    ensures { result ≡ raw_path_of step_bytes.now steps.now metaspace }
 {
-    if step_count == 0 {
-        if is_present(metaspace) {
-            return RawPath::Present(prepend_of(metaspace));
-        }
-        return RawPath::Absent;
+    match steps {
+        [] if metaspace.is_some() => Some(prepend_of(metaspace)),
+        [step] if is_space_replace(step_bytes, *step) => Some(prepend_of(metaspace)),
+        [first, second]
+            if is_prepend_mark(step_bytes, *first)
+                && is_space_replace(step_bytes, *second)
+                && !metaspace_splits(metaspace) => { Some(RawPrepend::Unguarded) }
+        _ => None,
     }
-    let first = steps[0];
-    if step_count == 1 {
-        if is_space_replace(step_bytes, first) {
-            return RawPath::Present(prepend_of(metaspace));
-        }
-        return RawPath::Absent;
-    }
-    if step_count == 2 {
-        let second = steps[1];
-        if !is_prepend_mark(step_bytes, first) {
-            return RawPath::Absent;
-        }
-        if !is_space_replace(step_bytes, second) {
-            return RawPath::Absent;
-        }
-        if metaspace_splits(metaspace) {
-            return RawPath::Absent;
-        }
-        return RawPath::Present(RawPrepend::Unguarded);
-    }
-    RawPath::Absent
 }
 
 // The raw path of a model, by its kind and whether its second token list is empty.
+#[tactic(auto, unfolding(crate::specs::inner::Path::raw_path_by))]
 pub fn raw_path(
-    step_bytes: &[u8],
-    steps: [Step; 16],
-    step_count: usize,
-    metaspace: Metaspace,
+    steps: &StepList<'_>,
+    metaspace: Option<Metaspace>,
     kind: WordSplit,
     second_empty: bool,
-) -> RawPath
-    ensures { result ≡ raw_path_by kind second_empty step_bytes.now (take step_count steps) metaspace }
+) -> Option<RawPrepend>
+    ensures { result ≡ raw_path_by kind second_empty steps.now.bytes.now (take steps.now.count steps.now.list) metaspace }
 {
-    if !divides(kind) {
-        return RawPath::Absent;
+    if divides(kind) && second_empty {
+        path_of(steps.bytes, &steps.list[..steps.count.min(16)], metaspace)
+    } else {
+        None
     }
-    if !second_empty {
-        return RawPath::Absent;
-    }
-    path_of(step_bytes, steps, step_count, metaspace)
 }

@@ -161,32 +161,31 @@ char_width-front t n h = ap char_width (sym (take-append-drop n t)) ∙ char_wid
 pub char_ends : (s : List ℕ) (i : ℕ) → i ≤ length s → i + char_width (drop i s) ≤ length s
 char_ends s i h = omega (arith, char_width-le-length (drop i s), length-drop i s)
 
--- The number of a character that stands at the head, by its bytes.
-pub code_point-one : (t : List ℕ) → 1 ≤ length t → code_point (take 1 t) ≡ get_or t 0 0
+-- The number of a character, by its bytes.
+pub code_point-none : (t : List ℕ) → length t ≡ 0 → code_point t ≡ 0
 unfolding code_point
-code_point-one [] h = absurd (omega arith)
-code_point-one (a ∷ t) h = refl
+code_point-none [] h = refl
+code_point-none (a ∷ t) h = absurd (omega arith)
 
-pub code_point_two : (t : List ℕ) → 2 ≤ length t → code_point (take 2 t) ≡ (get_or t 0 0 - 0xC0) * 64 + (get_or t 1 0 - 0x80)
+pub code_point-one : (t : List ℕ) → length t ≡ 1 → code_point t ≡ get_or t 0 0
 unfolding code_point
-code_point_two [] h = absurd (omega arith)
-code_point_two (a ∷ []) h = absurd (omega arith)
-code_point_two (a ∷ b ∷ t) h = refl
+code_point-one (a ∷ []) h = refl
+code_point-one t h = absurd (omega arith)
 
-pub code_point_three : (t : List ℕ) → 3 ≤ length t
-    → code_point (take 3 t) ≡ ((get_or t 0 0 - 0xE0) * 64 + (get_or t 1 0 - 0x80)) * 64 + (get_or t 2 0 - 0x80)
+pub code_point_two : (t : List ℕ) → length t ≡ 2 → code_point t ≡ (get_or t 0 0 - 0xC0) * 64 + (get_or t 1 0 - 0x80)
 unfolding code_point
-code_point_three [] h = absurd (omega arith)
-code_point_three (a ∷ []) h = absurd (omega arith)
-code_point_three (a ∷ b ∷ []) h = absurd (omega arith)
-code_point_three (a ∷ b ∷ c ∷ t) h = refl
+code_point_two (a ∷ b ∷ []) h = refl
+code_point_two t h = absurd (omega arith)
 
-pub code_point_four : (t : List ℕ) → 4 ≤ length t
-    → code_point (take 4 t)
+pub code_point_three : (t : List ℕ) → length t ≡ 3
+    → code_point t ≡ ((get_or t 0 0 - 0xE0) * 64 + (get_or t 1 0 - 0x80)) * 64 + (get_or t 2 0 - 0x80)
+unfolding code_point
+code_point_three (a ∷ b ∷ c ∷ []) h = refl
+code_point_three t h = absurd (omega arith)
+
+pub code_point_four : (t : List ℕ) → length t ≡ 4
+    → code_point t
     ≡ (((get_or t 0 0 - 0xF0) * 64 + (get_or t 1 0 - 0x80)) * 64 + (get_or t 2 0 - 0x80)) * 64 + (get_or t 3 0 - 0x80)
 unfolding code_point
-code_point_four [] h = absurd (omega arith)
-code_point_four (a ∷ []) h = absurd (omega arith)
-code_point_four (a ∷ b ∷ []) h = absurd (omega arith)
-code_point_four (a ∷ b ∷ c ∷ []) h = absurd (omega arith)
-code_point_four (a ∷ b ∷ c ∷ d ∷ t) h = refl
+code_point_four (a ∷ b ∷ c ∷ d ∷ []) h = refl
+code_point_four t h = absurd (omega arith)

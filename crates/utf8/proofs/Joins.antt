@@ -1,4 +1,6 @@
 -- Laws of lists that are joined, of what a text starts and ends with, and of parts of valid texts. Assumes nothing.
+use Rattle.std.specs.Prelude.{Some}
+use Rattle.std.proofs.lemmas.Option.{none-some, same_Some}
 use Prim.Native.Nat.{ℕ, zero, suc, ◌-◌, ◌<◌, max}
 use native.Mathlib.Omega.{arith}
 use native.Mathlib.Nat.{suc-ne-zero}
@@ -6,7 +8,6 @@ use mathlib.Core.Path.{◌≡◌, refl, sym, ap, ap₂, ◌∙◌}
 use mathlib.Core.Bool.{Bool, true, false, not, cond}
 use mathlib.Core.Logic.{⊎_elim}
 use mathlib.Core.List.{List, [], ◌∷◌, ◌++◌, map, append_assoc}
-use mathlib.Core.Option.{some, none-ne-some, some-injective}
 use borrow.Author.Tests.{ltb-true, ltb-false, lt-ltb}
 use lib.Dec.{ltb}
 use lib.ListN.{length, take, drop, get_or, length-append, length-take, length-drop, take-append-drop}
@@ -20,24 +21,24 @@ use Rattle.utf8.proofs.Valid.{starts_with_char}
 use Rattle.utf8.proofs.Starts.{not-empty, starts_front, same_refl, same-eq}
 use Rattle.utf8.proofs.Elements.{all_by_places}
 
-module _ {ℓ} {A : Type ℓ} where
+module _ {A : Type 0} where
   pub append_cancel : (xs ys zs : List A) → xs ++ ys ≡ xs ++ zs → ys ≡ zs
   append_cancel xs ys zs e = sym (drop-append_seam xs ys) ∙ ap (drop (length xs)) e ∙ drop-append_seam xs zs
 
   -- What a search finds stands at some place, and passes the test.
-  pub record FoundIn (test : A → Bool) (xs : List A) (d x : A) : Type ℓ where
+  pub record FoundIn (test : A → Bool) (xs : List A) (d x : A) : Type 0 where
     pub place : ℕ
     pub inside : place < length xs
     pub there : get_or xs place d ≡ x
     pub passes : test x ≡ true
 
-  pub find-some : (test : A → Bool) (xs : List A) (d x : A) → find test xs ≡ some x → FoundIn test xs d x
-  find-some test [] d x e = absurd (none-ne-some x e)
+  pub find-some : (test : A → Bool) (xs : List A) (d x : A) → find test xs ≡ Some x → FoundIn test xs d x
+  find-some test [] d x e = absurd (none-some x e)
   find-some test (y ∷ xs) d x e = go (find-some test xs d x) (test y) refl e
     where
-      go : (find test xs ≡ some x → FoundIn test xs d x) → (b : Bool) → test y ≡ b → cond b (some y) (find test xs) ≡ some x → FoundIn test (y ∷ xs) d x
+      go : (find test xs ≡ Some x → FoundIn test xs d x) → (b : Bool) → test y ≡ b → cond b (Some y) (find test xs) ≡ Some x → FoundIn test (y ∷ xs) d x
       go later true t e =
-          let same : y ≡ x = some-injective y x e in
+          let same : y ≡ x = same_Some y x e in
           record { place = 0; inside = omega arith; there = same; passes = ap test (sym same) ∙ t }
       go later false t e =
           let f = later e in

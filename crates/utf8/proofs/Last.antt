@@ -1,5 +1,5 @@
 -- Laws of a text's last character. Assumes nothing.
-use Prim.Native.Nat.{ℕ, zero, suc, ◌+◌, ◌-◌, ◌≤◌, ◌<◌, max}
+use Prim.Native.Nat.{ℕ, zero, suc, ◌+◌, ◌-◌, ◌≤◌, ◌<◌, min, max}
 use native.Mathlib.Nat.{eq-or-lt_of_le}
 use native.Mathlib.Omega.{arith}
 use mathlib.Core.Path.{◌≡◌, refl, sym, ap, ap₂, ◌∙◌}
@@ -155,7 +155,7 @@ none_more t k none here j pos below fits e = ⊎_elim same less (eq-or-lt_of_le 
     less l = none j pos l fits e
 
 -- All widths are tried: none stands there.
-pub last_width-none : (t : List ℕ) (k : ℕ) → NoneBelow t k → (4 < k) ⊎ (length t < k) → last_width t ≡ 0
+pub last_width-none : (t : List ℕ) (k : ℕ) → NoneBelow t k → min (length t) 4 < k → last_width t ≡ 0
 unfolding last_width
 last_width-none [] k none tried = last_width-nil
 last_width-none (b ∷ u) k none tried = go (last_of (b ∷ u) (omega arith))
@@ -166,12 +166,9 @@ last_width-none (b ∷ u) k none tried = go (last_of (b ∷ u) (omega arith))
     go : Last t → last_width t ≡ 0
     go r = ap char_width (last_or-last t r) ∙ sorted r.sort
       where
-        below : length r.last ≤ 4 → length r.last < k
-        below h = ⊎_elim (λ four. omega arith) (λ all. omega (arith, last_fits t r)) tried
-
         sorted : (char_width r.last ≡ 0) ⊎ (char_width r.last ≡ length r.last) → char_width r.last ≡ 0
         sorted (inl e) = e
         sorted (inr e) =
             absurd
-            (none (length r.last) r.some (below (omega (arith, char_width-le_four r.last))) (last_fits t r)
+            (none (length r.last) r.some (omega (arith, tried, char_width-le_four r.last, last_fits t r)) (last_fits t r)
             (ap char_width (last-place t r) ∙ e))

@@ -16,3 +16,4 @@ pub mod Fronts
 pub mod Elements
 pub mod Joins
 pub mod Plain
+pub mod Chains

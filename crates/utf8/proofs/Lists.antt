@@ -1,14 +1,13 @@
 -- Laws on the words of `specs/Lists`. Assumes nothing.
-use Prim.Native.Nat.{ℕ, zero, suc, ◌+◌, ◌-◌, ◌<◌}
+use Prim.Native.Nat.{ℕ, zero, suc, ◌-◌, ◌<◌}
 use native.Mathlib.Nat.{not-suc-le-zero}
 use native.Mathlib.Omega.{arith}
-use native.Mathlib.Numerals.{add-one}
 use mathlib.Core.Path.{◌≡◌, refl, sym, ap, ◌∙◌}
-use mathlib.Core.Bool.{Bool, ◌&&◌, ◌||◌, and_assoc}
+use mathlib.Core.Bool.{Bool, ◌&&◌, and_assoc}
 use mathlib.Core.List.{List, [], ◌∷◌, ◌++◌, map, append_assoc}
-use lib.ListN.{length, take, drop, get_or, length-drop}
-use lib.Seq.{take_all, drop-cons}
-use Rattle.utf8.specs.Lists.{all, any, last_or, join}
+use lib.ListN.{length, take, drop, length-drop}
+use lib.Seq.{take_all}
+use Rattle.utf8.specs.Lists.{all, last_or, join}
 
 module _ {ℓ} {A : Type ℓ} where
   -- What holds of a list where it holds of every shorter one holds of all.
@@ -26,9 +25,6 @@ module _ {ℓ} {A : Type ℓ} where
   -- The part of a list from a place to its end.
   pub part_to_end : (l : List A) (i : ℕ) → take (length l - i) (drop i l) ≡ drop i l
   part_to_end l i = take_all (length l - i) (drop i l) (omega (arith, length-drop i l))
-
-  pub any_from : (test : A → Bool) (xs : List A) (i : ℕ) (d : A) → i < length xs → any test (drop i xs) ≡ (test (get_or xs i d) || any test (drop (i + 1) xs))
-  any_from test xs i d h = rw (drop-cons xs i d h, add-one i)
 
   pub last_or-append : (d c : A) (xs : List A) → last_or d (xs ++ (c ∷ [])) ≡ c
   last_or-append d c [] = refl

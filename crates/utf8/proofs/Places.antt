@@ -1,8 +1,8 @@
 -- What the words on lists give at a place: the laws that a loop over a table asks for.
+use Rattle.std.specs.Prelude.{None, Some}
 use mathlib.Core.Path.{◌≡◌, refl, sym, ap, ◌∙◌}
 use mathlib.Core.Bool.{Bool, true, false, ◌&&◌, ◌||◌, or_assoc}
 use mathlib.Core.List.{List, [], ◌∷◌, ◌++◌}
-use mathlib.Core.Option.{none, some}
 use Prim.Native.Nat.{ℕ, zero, suc, ◌+◌, ◌-◌, ◌≤◌, ◌<◌, min, suc-le-suc}
 use native.Mathlib.Nat.{le_of_suc-le-suc, not-suc-le-zero, suc-sub-suc, sub-zero, zero-sub, suc-add, add-suc, add-zero, zero-add, zero-min, min-zero, suc-min-suc}
 use native.Mathlib.Numerals.{add-one}
@@ -48,7 +48,7 @@ module _ {ℓ} {A : Type ℓ} (test : A → Bool) (xs : List A) (i : ℕ) where
       go (x ∷ xs) zero e h = and_left (test x) (all test xs) e
       go (x ∷ xs) (suc i) e h = go xs i (and_right (test x) (all test xs) e) (le_of_suc-le-suc h)
 
-module _ {ℓ} {A : Type ℓ} (test : A → Bool) where
+module _ {A : Type 0} (test : A → Bool) where
   -- ---- what a list has, by what its elements are
 
   pub any-one : (xs : List A) (i : ℕ) (d : A) → i < length xs → test (get_or xs i d) ≡ true → any test xs ≡ true
@@ -61,12 +61,12 @@ module _ {ℓ} {A : Type ℓ} (test : A → Bool) where
   any_none (x ∷ xs) d f = rw (f 0 (omega arith)) (any_none xs d (λ i h. f (suc i) (suc-le-suc h)))
 
   -- the first that passes is found
-  pub find_first : (xs : List A) (i : ℕ) (d : A) → i < length xs → test (get_or xs i d) ≡ true → ((j : ℕ) → j < i → test (get_or xs j d) ≡ false) → find test xs ≡ some (get_or xs i d)
+  pub find_first : (xs : List A) (i : ℕ) (d : A) → i < length xs → test (get_or xs i d) ≡ true → ((j : ℕ) → j < i → test (get_or xs j d) ≡ false) → find test xs ≡ Some (get_or xs i d)
   find_first [] i d h e f = absurd (not-suc-le-zero h)
   find_first (x ∷ xs) zero d h e f = rw e
   find_first (x ∷ xs) (suc i) d h e f = rw (f 0 (omega arith)) (find_first xs i d (le_of_suc-le-suc h) e (λ j k. f (suc j) (suc-le-suc k)))
 
-  pub find_none : (xs : List A) (d : A) → ((i : ℕ) → i < length xs → test (get_or xs i d) ≡ false) → find test xs ≡ none
+  pub find_none : (xs : List A) (d : A) → ((i : ℕ) → i < length xs → test (get_or xs i d) ≡ false) → find test xs ≡ None
   find_none [] d f = refl
   find_none (x ∷ xs) d f = rw (f 0 (omega arith)) (find_none xs d (λ i h. f (suc i) (suc-le-suc h)))
 

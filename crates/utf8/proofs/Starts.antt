@@ -1,16 +1,15 @@
 -- Laws of what a list starts with. Assumes nothing.
-use Prim.Native.Nat.{ℕ, zero, suc, ◌+◌, ◌-◌, ◌≤◌, ◌<◌}
+use Prim.Native.Nat.{ℕ, zero, suc, ◌≤◌, ◌<◌}
 use native.Mathlib.Omega.{arith}
-use native.Mathlib.Numerals.{add-one}
 use mathlib.Core.Path.{◌≡◌, refl, sym, ap, ap₂, ◌∙◌}
 use mathlib.Core.Bool.{Bool, true, false, ◌&&◌, and-false}
 use mathlib.Core.Logic.{⊎_elim}
 use mathlib.Core.List.{List, [], ◌∷◌}
-use borrow.Author.Tests.{eqb-true, eq-eqb, ne_eqb}
+use borrow.Author.Tests.{eqb-true, eq-eqb}
 use lib.Dec.{eqb}
-use lib.ListN.{length, take, drop, get_or, length-drop, drop_of_length-le}
-use lib.Seq.{drop-cons}
-use Rattle.utf8.specs.Lists.{is_empty, starts_with, ends_with, same}
+use lib.ListN.{length, take}
+use lib.Pointwise.{pointwise}
+use Rattle.utf8.specs.Lists.{is_empty, starts_with, same}
 use Rattle.utf8.proofs.Tests.{either, and_left, and_right, and_both, clash}
 
 module _ {ℓ} {A : Type ℓ} where
@@ -22,22 +21,11 @@ module _ {ℓ} {A : Type ℓ} where
   not-empty [] h = absurd (omega arith)
   not-empty (x ∷ l) h = refl
 
--- Two texts beside each other, from a place on.
-module _ (p t : List ℕ) (i : ℕ) where
-  starts_at : i < length p → i < length t → starts_with (drop i p) (drop i t) ≡ (eqb (get_or p i 0) (get_or t i 0) && starts_with (drop (i + 1) p) (drop (i + 1) t))
-  starts_at h k = rw (drop-cons p i 0 h, drop-cons t i 0 k, add-one)
-
-  pub starts_next : i < length p → i < length t → get_or p i 0 ≡ get_or t i 0 → starts_with (drop i p) (drop i t) ≡ starts_with (drop (i + 1) p) (drop (i + 1) t)
-  starts_next h k e = starts_at h k ∙ rw (eq-eqb (get_or p i 0) (get_or t i 0) e)
-
-  pub starts_apart : i < length p → i < length t → (get_or p i 0 ≡ get_or t i 0 → ⊥) → starts_with (drop i p) (drop i t) ≡ false
-  starts_apart h k e = starts_at h k ∙ rw (ne_eqb (get_or p i 0) (get_or t i 0) e)
-
-  pub starts_short : i < length p → length t ≤ i → starts_with (drop i p) (drop i t) ≡ false
-  starts_short h k = rw (drop-cons p i 0 h, drop_of_length-le t k)
-
-  pub starts_ended : length p ≤ i → starts_with (drop i p) (drop i t) ≡ true
-  starts_ended h = rw (drop_of_length-le p h)
+-- What a slice's `starts_with` tells.
+pub starts_by_front : (p t : List ℕ) → pointwise eqb p (take (length p) t) ≡ starts_with p t
+starts_by_front [] t = refl
+starts_by_front (x ∷ p) [] = refl
+starts_by_front (x ∷ p) (y ∷ t) = ap (λ (b : Bool). eqb x y && b) (starts_by_front p t)
 
 pub starts_length : (p t : List ℕ) → starts_with p t ≡ true → length p ≤ length t
 starts_length [] t e = omega arith
@@ -70,24 +58,7 @@ same-eq (x ∷ p) (y ∷ q) e = ap₂ {C = List ℕ} ◌∷◌ (eqb-true x y (an
 pub front-apart : (n : ℕ) (p t : List ℕ) → starts_with p t ≡ false → same (take n t) p ≡ false
 front-apart n p t e = ⊎_elim (λ s. clash e (ap (λ (l : List ℕ). starts_with l t) (sym (same-eq (take n t) p s)) ∙ starts_take n t)) (λ s. s) (either (same (take n t) p))
 
--- Of two texts of one length, what one starts with is the whole of it.
-pub starts_whole : (p t : List ℕ) → length p ≡ length t → starts_with p t ≡ same p t
-starts_whole [] [] h = refl
-starts_whole [] (y ∷ t) h = absurd (omega arith)
-starts_whole (x ∷ p) [] h = absurd (omega arith)
-starts_whole (x ∷ p) (y ∷ t) h = ap (λ (b : Bool). eqb x y && b) (starts_whole p t (omega arith))
-
 pub apart_by_length : (p t : List ℕ) → length t < length p → same p t ≡ false
 apart_by_length [] t h = absurd (omega arith)
 apart_by_length (x ∷ p) [] h = refl
 apart_by_length (x ∷ p) (y ∷ t) h = rw (apart_by_length p t (omega arith)) (and-false (eqb x y))
-
--- What a text ends with is what its last part starts with; a shorter text does not end with it.
-module _ (p t : List ℕ) where
-  pub ends_part : length p ≤ length t → starts_with p (drop (length t - length p) t) ≡ ends_with p t
-  ends_part h = starts_whole p (drop (length t - length p) t) (omega (arith, length-drop (length t - length p) t))
-
-  pub ends_short : length t < length p → ends_with p t ≡ false
-  ends_short h =
-      let none : length t - length p ≡ 0 = omega arith in
-      rw none (apart_by_length p t h)

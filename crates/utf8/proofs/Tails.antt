@@ -1,17 +1,22 @@
 -- A second byte in a range, and UTF8-tails after it: the steps of a scan over them. Assumes nothing.
-use Prim.Native.Nat.{ℕ, suc, ◌+◌, ◌-◌, ◌≤◌, ◌<◌}
+use Prim.Native.Nat.{ℕ, zero, suc, ◌-◌, ◌≤◌, ◌<◌}
 use native.Mathlib.Omega.{arith}
-use native.Mathlib.Numerals.{add-one}
-use mathlib.Core.Path.{◌≡◌, sym, ap, ap₂, ◌∙◌}
-use mathlib.Core.Bool.{true, false, ◌&&◌}
+use mathlib.Core.Path.{◌≡◌, refl, ap}
+use mathlib.Core.Bool.{Bool, true, false, ◌&&◌}
 use mathlib.Core.Logic.{⊎_elim}
-use mathlib.Core.List.{List, ◌∷◌}
-use lib.ListN.{length, drop, get_or, replicate, length-drop, length-replicate}
+use mathlib.Core.List.{List, [], ◌∷◌}
+use lib.ListN.{length, take, drop, get_or, replicate, length-drop, length-replicate}
 use lib.Seq.{drop-cons}
+use Rattle.std.specs.List.{list_all}
 use Rattle.utf8.specs.Lists.{Range, within}
 use Rattle.utf8.specs.Chars.{tail, has_form}
 use Rattle.utf8.proofs.Tests.{either}
 use Rattle.utf8.proofs.Forms.{has_form-length}
+
+tails_by_bytes : (k : ℕ) (t : List ℕ) → k ≤ length t → has_form (replicate k tail) t ≡ list_all (within tail) (take k t)
+tails_by_bytes zero t h = refl
+tails_by_bytes (suc k) [] h = absurd (omega arith)
+tails_by_bytes (suc k) (b ∷ t) h = ap (λ (r : Bool). within tail b && r) (tails_by_bytes k t (omega arith))
 
 module _ (s : List ℕ) (n : ℕ) where
   -- Too few bytes have no form.
@@ -24,13 +29,9 @@ module _ (s : List ℕ) (n : ℕ) where
       impossible : has_form form (drop 1 s) ≡ true → ⊥
       impossible e = omega (arith, has_form-length form (drop 1 s) e, length-drop 1 s, length-replicate (n - 2) tail)
 
-  pub second_byte : (second : Range) → 1 < length s
-      → has_form (second ∷ replicate (n - 2) tail) (drop 1 s) ≡ (within second (get_or s 1 0) && has_form (replicate (n - 2) tail) (drop 2 s))
-  second_byte second h = rw (drop-cons s 1 0 h)
-
-  pub next-tail : (i : ℕ) → i < n → i < length s
-      → has_form (replicate (n - i) tail) (drop i s) ≡ (within tail (get_or s i 0) && has_form (replicate (n - (i + 1)) tail) (drop (i + 1) s))
-  next-tail i h inside =
-      let count : n - i ≡ suc (n - (i + 1)) = omega arith in
-      ap₂ (λ (k : ℕ) (l : List ℕ). has_form (replicate k tail) l) count (drop-cons s i 0 inside)
-      ∙ ap (λ (k : ℕ). within tail (get_or s i 0) && has_form (replicate (n - (i + 1)) tail) (drop k s)) (sym (add-one i))
+  -- The form is told byte by byte.
+  pub form_by_bytes : (second : Range) → 2 ≤ n → n ≤ length s
+      → has_form (second ∷ replicate (n - 2) tail) (drop 1 s) ≡ (within second (get_or s 1 0) && list_all (within tail) (take (n - 2) (drop 2 s)))
+  form_by_bytes second h inside =
+      rw (drop-cons s 1 0 (omega arith))
+      (ap (λ (b : Bool). within second (get_or s 1 0) && b) (tails_by_bytes (n - 2) (drop 2 s) (omega (arith, length-drop 2 s))))

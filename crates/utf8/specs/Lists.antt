@@ -1,6 +1,5 @@
 -- Words on lists that the definitions of every crate are written in.
-use Rattle.std.specs.Prelude.{ℕ, zero, suc, ◌+◌, ◌-◌, max, Bool, true, false, cond, ◌&&◌, ◌||◌, List, [], ◌∷◌, ◌++◌, map, eqb, leb, length, take, drop}
-use Rattle.std.proofs.Math.Option.{Option, none, some}
+use Rattle.std.specs.Prelude.{ℕ, zero, suc, ◌+◌, ◌-◌, max, Bool, true, false, cond, ◌&&◌, ◌||◌, List, [], ◌∷◌, ◌++◌, map, eqb, leb, length, take, drop, Option, None, Some}
 use Rattle.std.proofs.Math.Seq.{slice}
 
 module _ {ℓ} {A : Type ℓ} where
@@ -24,11 +23,6 @@ module _ {ℓ} {A : Type ℓ} where
   -- How many elements pass the test.
   abbrev pub count : (A → Bool) → List A → ℕ
   count test xs = length (filter test xs)
-
-  -- The first element that passes the test.
-  abbrev pub find : (A → Bool) → List A → Option A
-  find test [] = none
-  find test (x ∷ xs) = cond (test x) (some x) (find test xs)
 
   -- The elements at the front up to the first that fails the test, and what follows them.
   abbrev pub take_while : (A → Bool) → List A → List A
@@ -75,6 +69,12 @@ module _ {ℓ} {A : Type ℓ} where
 
   abbrev pub cut_by : (List A → ℕ) → List A → List (List A)
   cut_by width xs = cut_for (length xs) width xs
+
+module _ {A : Type 0} where
+  -- The first element that passes the test.
+  abbrev pub find : (A → Bool) → List A → Option A
+  find test [] = None
+  find test (x ∷ xs) = cond (test x) (Some x) (find test xs)
 
 module _ {ℓ κ} {A : Type ℓ} {B : Type κ} where
   -- The elements of two lists side by side, as far as both go.

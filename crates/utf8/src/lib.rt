@@ -3,7 +3,6 @@
 
 #![tactic(auto)]
 
-pub mod bytes;
 pub mod chars;
 pub mod edges;
 pub mod white_space;

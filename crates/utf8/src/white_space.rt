@@ -6,77 +6,26 @@ ghost use Rattle.utf8.specs.inner.Ends.{white_width, white_end};
 
 use super::chars::{char_width, last_width, number_of};
 
-// Code points from low to high.
-#[derive(Clone, Copy)]
-pub struct Range {
-    pub low: u32,
-    pub high: u32,
-}
-
-// The characters that have the property White_Space.
-const WHITE_SPACE: [Range; 10] = [
-    Range {
-        low: 0x0009,
-        high: 0x000D,
-    },
-    Range {
-        low: 0x0020,
-        high: 0x0020,
-    },
-    Range {
-        low: 0x0085,
-        high: 0x0085,
-    },
-    Range {
-        low: 0x00A0,
-        high: 0x00A0,
-    },
-    Range {
-        low: 0x1680,
-        high: 0x1680,
-    },
-    Range {
-        low: 0x2000,
-        high: 0x200A,
-    },
-    Range {
-        low: 0x2028,
-        high: 0x2029,
-    },
-    Range {
-        low: 0x202F,
-        high: 0x202F,
-    },
-    Range {
-        low: 0x205F,
-        high: 0x205F,
-    },
-    Range {
-        low: 0x3000,
-        high: 0x3000,
-    },
+// The characters that have the property White_Space: the first and the last code point of each range, since a constant can hold no `..=`.
+const WHITE_SPACE: [(u32, u32); 10] = [
+    (0x0009, 0x000D),
+    (0x0020, 0x0020),
+    (0x0085, 0x0085),
+    (0x00A0, 0x00A0),
+    (0x1680, 0x1680),
+    (0x2000, 0x200A),
+    (0x2028, 0x2029),
+    (0x202F, 0x202F),
+    (0x205F, 0x205F),
+    (0x3000, 0x3000),
 ];
-
-fn is_within(range: Range, code: u32) -> bool
-    ensures { result ≡ within (range.low, range.high) code }
-{
-    if code < range.low {
-        return false;
-    }
-    code <= range.high
-}
 
 pub fn is_white_space(code: u32) -> bool
     ensures { result ≡ is_white_space code }
 {
-    let mut i = 0;
-    while i < 10 {
-        if is_within(WHITE_SPACE[i], code) {
-            return true;
-        }
-        i += 1;
-    }
-    false
+    WHITE_SPACE
+        .iter()
+        .any(|(low, high)| (*low..=*high).contains(&code))
 }
 
 // The width of the White_Space character at the head of s, 0 where none stands there.
@@ -84,13 +33,11 @@ pub fn white_width(s: &[u8]) -> usize
     ensures { result ≡ white_width s.now }
 {
     let w = char_width(s);
-    if w == 0 {
-        return 0;
+    if w != 0 && is_white_space(number_of(&s[..w])) {
+        w
+    } else {
+        0
     }
-    if is_white_space(number_of(s, w)) {
-        return w;
-    }
-    0
 }
 
 // The part of s without White_Space at its left end.
@@ -112,9 +59,7 @@ pub fn trim_start(s: &[u8]) -> &[u8]
 pub fn white_end(s: &[u8]) -> usize
     ensures { result ≡ white_end s.now }
 {
-    let w = last_width(s);
-    let at = s.len() - w;
-    white_width(&s[at..])
+    white_width(&s[s.len() - last_width(s)..])
 }
 
 // The part of s without White_Space at its right end.

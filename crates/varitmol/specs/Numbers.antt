@@ -1,6 +1,6 @@
 -- Steps and metaspace as a caller in C gives them (rules 13.1 to 13.3). An exported function takes no enum, so they come as numbers: a kind and four
 -- numbers a step, and two numbers for metaspace.
-use Rattle.std.specs.Prelude.{ℕ, ◌+◌, ◌*◌, Bool, not, cond, ◌&&◌, ◌||◌, List, map, eqb, ltb, length, get_or}
+use Rattle.std.specs.Prelude.{ℕ, ◌+◌, ◌*◌, Bool, not, cond, ◌&&◌, ◌||◌, List, map, eqb, ltb, length, get_or, Option, None, Some}
 use Rattle.utf8.specs.Lists.{any, numbered, below}
 use Rattle.model.specs.declared.Answer.{Answer}
 use Rattle.model.specs.declared.Span.{Span}
@@ -9,7 +9,6 @@ use Rattle.model.specs.declared.Step.TheVariants.{Prepend, Replace, CollapseSpac
 use Rattle.model.specs.declared.PrependScheme.{PrependScheme}
 use Rattle.model.specs.declared.PrependScheme.TheVariants.{Never, Always, First}
 use Rattle.model.specs.declared.Metaspace.{Metaspace}
-use Rattle.model.specs.declared.Metaspace.TheVariants.{Absent, Present}
 use Rattle.model.specs.Answers.{Outcome, ScratchOutcome, refused}
 use Rattle.prepare.specs.Prepare.{PrepareOutcome}
 
@@ -39,8 +38,9 @@ unfoldable pub scheme_of : ℕ → PrependScheme
 scheme_of number = cond (eqb number 1) Never (cond (eqb number 2) Always First)
 
 -- Metaspace from its two numbers.
-unfoldable pub metaspace_from : ℕ → ℕ → Metaspace
-metaspace_from metaspace split = cond (eqb metaspace 0) Absent (Present (scheme_of metaspace) (eqb split 1))
+unfoldable pub metaspace_from : ℕ → ℕ → Option Metaspace
+metaspace_from metaspace split =
+    cond (eqb metaspace 0) None (Some (record { prepend = scheme_of metaspace; split = eqb split 1 }))
 
 -- A kind outside these, or a flag of a Strip that is neither 0 nor 1; a step is its place and its kind.
 unfoldable pub wrong_step : List ℕ → ℕ × ℕ → Bool

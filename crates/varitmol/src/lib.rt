@@ -3,10 +3,11 @@
 
 #![tactic(auto)]
 
-ghost use Rattle.std.specs.Prelude.{◌≡◌, length};
+ghost use Rattle.std.specs.Prelude.{◌≡◌, true, false, length, MatchResult};
 ghost use Rattle.model.specs.Answers.{Outcome, ScratchOutcome};
 ghost use Rattle.model.specs.Check.{check_number, check_outcome};
-ghost use Rattle.model.specs.Model.{model_of, token_list};
+ghost use Rattle.model.specs.Model.{columns, model_of, token_list};
+ghost use Rattle.model.specs.declared.Refusal.TheVariants.{WrongSize};
 ghost use Rattle.normalise.specs.Normalise.{normalise_outcome};
 ghost use Rattle.prepare.specs.Prepare.{derived_adjacency, derived_index, PrepareOutcome, prepare_outcome};
 ghost use Rattle.encode.specs.Encode.{encode_outcome};
@@ -14,12 +15,85 @@ ghost use Rattle.fragments.specs.Fragments.{fragments_outcome};
 ghost use Rattle.decode.specs.Decode.{decode_outcome};
 ghost use Rattle.varitmol.specs.Numbers.{steps_from, metaspace_from, wrong_numbers, answered, answered_result, answered_scratch, answered_prepare};
 
-use model::Answer;
+use model::{AddedTokens, Answer, MergeRows, Model, Refusal, StepList, Strings};
 use numbers::{metaspace_from, steps_from, wrong_numbers};
+use prepare::Prepared;
 
 mod numbers;
 
+// The model, where the numbers stand for steps and a metaspace. Each export takes as many parameters, since C has no slices in a struct.
+fn lent<'a>(
+    piece_bytes: &'a [u8],
+    piece_offsets: &'a [u32],
+    lookup: &'a [u32],
+    fallback: &'a [u32],
+    left: &'a [u32],
+    right: &'a [u32],
+    res: &'a [u32],
+    rank: &'a [u32],
+    first_bytes: &'a [u8],
+    first_offsets: &'a [u32],
+    first_ids: &'a [u32],
+    first_lstrip: &'a [bool],
+    first_rstrip: &'a [bool],
+    second_bytes: &'a [u8],
+    second_offsets: &'a [u32],
+    second_ids: &'a [u32],
+    second_lstrip: &'a [bool],
+    second_rstrip: &'a [bool],
+    step_bytes: &'a [u8],
+    step_kinds: &[u8],
+    step_spans: &[u32],
+    metaspace: u8,
+    split: u8,
+) -> Result<Model<'a>, Refusal>
+    ensures { let wrong = wrong_numbers step_kinds.now step_spans.now metaspace split in MatchResult result (λ model. (wrong ≡ false) × (columns model ≡ model_of piece_bytes.now piece_offsets.now lookup.now fallback.now left.now right.now res.now rank.now (token_list first_bytes.now first_offsets.now first_ids.now first_lstrip.now first_rstrip.now) (token_list second_bytes.now second_offsets.now second_ids.now second_lstrip.now second_rstrip.now) step_bytes.now (steps_from step_kinds.now step_spans.now) (length step_kinds.now) (metaspace_from metaspace split))) (λ refusal. (wrong ≡ true) × (refusal ≡ WrongSize)) }
+{
+    if wrong_numbers(step_kinds, step_spans, metaspace, split) {
+        return Err(Refusal::WrongSize);
+    }
+    Ok(Model {
+        pieces: Strings {
+            bytes: piece_bytes,
+            offsets: piece_offsets,
+        },
+        lookup,
+        fallback,
+        rows: MergeRows {
+            left,
+            right,
+            result: res,
+            rank,
+        },
+        first: AddedTokens {
+            contents: Strings {
+                bytes: first_bytes,
+                offsets: first_offsets,
+            },
+            ids: first_ids,
+            lstrip: first_lstrip,
+            rstrip: first_rstrip,
+        },
+        second: AddedTokens {
+            contents: Strings {
+                bytes: second_bytes,
+                offsets: second_offsets,
+            },
+            ids: second_ids,
+            lstrip: second_lstrip,
+            rstrip: second_rstrip,
+        },
+        steps: StepList {
+            bytes: step_bytes,
+            list: steps_from(step_kinds, step_spans),
+            count: step_kinds.len(),
+        },
+        metaspace: metaspace_from(metaspace, split),
+    })
+}
+
 // `model::check`.
+#[tactic(auto, unfolding(crate::specs::Numbers::answered))]
 #[unsafe(no_mangle)]
 pub extern "C" fn varitmol_check(
     piece_bytes: &[u8],
@@ -48,10 +122,7 @@ pub extern "C" fn varitmol_check(
 ) -> Answer
     ensures { result ≡ answered (wrong_numbers step_kinds.now step_spans.now metaspace split) (check_outcome (model_of piece_bytes.now piece_offsets.now lookup.now fallback.now left.now right.now res.now rank.now (token_list first_bytes.now first_offsets.now first_ids.now first_lstrip.now first_rstrip.now) (token_list second_bytes.now second_offsets.now second_ids.now second_lstrip.now second_rstrip.now) step_bytes.now (steps_from step_kinds.now step_spans.now) (length step_kinds.now) (metaspace_from metaspace split))) }
 {
-    if wrong_numbers(step_kinds, step_spans, metaspace, split) {
-        return Answer::refused(model::WRONG_SIZE, 0);
-    }
-    model::check(
+    match lent(
         piece_bytes,
         piece_offsets,
         lookup,
@@ -71,13 +142,18 @@ pub extern "C" fn varitmol_check(
         second_lstrip,
         second_rstrip,
         step_bytes,
-        steps_from(step_kinds, step_spans),
-        step_kinds.len(),
-        metaspace_from(metaspace, split),
-    )
+        step_kinds,
+        step_spans,
+        metaspace,
+        split,
+    ) {
+        Ok(model) => Answer::from(model::check(&model)),
+        Err(refusal) => Answer::from(refusal),
+    }
 }
 
 // `normalise::normalise`.
+#[tactic(auto, unfolding(crate::specs::Numbers::answered_scratch))]
 #[unsafe(no_mangle)]
 pub extern "C" fn varitmol_normalise(
     piece_bytes: &[u8],
@@ -111,10 +187,7 @@ pub extern "C" fn varitmol_normalise(
 ) -> Answer
     ensures { ◌≡◌ {A = ScratchOutcome} (record { answer = result; out = out.new; scratch_a = scratch_a.new; scratch_b = scratch_b.new }) (answered_scratch (wrong_numbers step_kinds.now step_spans.now metaspace split) out.old scratch_a.old scratch_b.old (normalise_outcome (model_of piece_bytes.now piece_offsets.now lookup.now fallback.now left.now right.now res.now rank.now (token_list first_bytes.now first_offsets.now first_ids.now first_lstrip.now first_rstrip.now) (token_list second_bytes.now second_offsets.now second_ids.now second_lstrip.now second_rstrip.now) step_bytes.now (steps_from step_kinds.now step_spans.now) (length step_kinds.now) (metaspace_from metaspace split)) text.now first out.old scratch_a.old scratch_b.old)) }
 {
-    if wrong_numbers(step_kinds, step_spans, metaspace, split) {
-        return Answer::refused(model::WRONG_SIZE, 0);
-    }
-    normalise::normalise(
+    match lent(
         piece_bytes,
         piece_offsets,
         lookup,
@@ -134,18 +207,20 @@ pub extern "C" fn varitmol_normalise(
         second_lstrip,
         second_rstrip,
         step_bytes,
-        steps_from(step_kinds, step_spans),
-        step_kinds.len(),
-        metaspace_from(metaspace, split),
-        text,
-        first,
-        out,
-        scratch_a,
-        scratch_b,
-    )
+        step_kinds,
+        step_spans,
+        metaspace,
+        split,
+    ) {
+        Ok(model) => Answer::from(normalise::normalise(
+            &model, text, first, out, scratch_a, scratch_b,
+        )),
+        Err(refusal) => Answer::from(refusal),
+    }
 }
 
 // `normalise::normalise_checked`.
+#[tactic(auto, unfolding(crate::specs::Numbers::answered_scratch))]
 #[unsafe(no_mangle)]
 pub extern "C" fn varitmol_normalise_checked(
     piece_bytes: &[u8],
@@ -180,10 +255,7 @@ pub extern "C" fn varitmol_normalise_checked(
     requires { check_number (model_of piece_bytes.now piece_offsets.now lookup.now fallback.now left.now right.now res.now rank.now (token_list first_bytes.now first_offsets.now first_ids.now first_lstrip.now first_rstrip.now) (token_list second_bytes.now second_offsets.now second_ids.now second_lstrip.now second_rstrip.now) step_bytes.now (steps_from step_kinds.now step_spans.now) (length step_kinds.now) (metaspace_from metaspace split)) ≡ 0 }
     ensures { ◌≡◌ {A = ScratchOutcome} (record { answer = result; out = out.new; scratch_a = scratch_a.new; scratch_b = scratch_b.new }) (answered_scratch (wrong_numbers step_kinds.now step_spans.now metaspace split) out.old scratch_a.old scratch_b.old (normalise_outcome (model_of piece_bytes.now piece_offsets.now lookup.now fallback.now left.now right.now res.now rank.now (token_list first_bytes.now first_offsets.now first_ids.now first_lstrip.now first_rstrip.now) (token_list second_bytes.now second_offsets.now second_ids.now second_lstrip.now second_rstrip.now) step_bytes.now (steps_from step_kinds.now step_spans.now) (length step_kinds.now) (metaspace_from metaspace split)) text.now first out.old scratch_a.old scratch_b.old)) }
 {
-    if wrong_numbers(step_kinds, step_spans, metaspace, split) {
-        return Answer::refused(model::WRONG_SIZE, 0);
-    }
-    normalise::normalise_checked(
+    match lent(
         piece_bytes,
         piece_offsets,
         lookup,
@@ -203,18 +275,20 @@ pub extern "C" fn varitmol_normalise_checked(
         second_lstrip,
         second_rstrip,
         step_bytes,
-        steps_from(step_kinds, step_spans),
-        step_kinds.len(),
-        metaspace_from(metaspace, split),
-        text,
-        first,
-        out,
-        scratch_a,
-        scratch_b,
-    )
+        step_kinds,
+        step_spans,
+        metaspace,
+        split,
+    ) {
+        Ok(model) => Answer::from(normalise::normalise_checked(
+            &model, text, first, out, scratch_a, scratch_b,
+        )),
+        Err(refusal) => Answer::from(refusal),
+    }
 }
 
 // `prepare::prepare`.
+#[tactic(auto, unfolding(crate::specs::Numbers::answered_prepare))]
 #[unsafe(no_mangle)]
 pub extern "C" fn varitmol_prepare(
     piece_bytes: &[u8],
@@ -245,10 +319,7 @@ pub extern "C" fn varitmol_prepare(
 ) -> Answer
     ensures { ◌≡◌ {A = PrepareOutcome} (record { answer = result; adjacency = adjacency.new; index = index.new }) (answered_prepare (wrong_numbers step_kinds.now step_spans.now metaspace split) adjacency.old index.old (prepare_outcome (model_of piece_bytes.now piece_offsets.now lookup.now fallback.now left.now right.now res.now rank.now (token_list first_bytes.now first_offsets.now first_ids.now first_lstrip.now first_rstrip.now) (token_list second_bytes.now second_offsets.now second_ids.now second_lstrip.now second_rstrip.now) step_bytes.now (steps_from step_kinds.now step_spans.now) (length step_kinds.now) (metaspace_from metaspace split)) adjacency.old index.old)) }
 {
-    if wrong_numbers(step_kinds, step_spans, metaspace, split) {
-        return Answer::refused(model::WRONG_SIZE, 0);
-    }
-    prepare::prepare(
+    match lent(
         piece_bytes,
         piece_offsets,
         lookup,
@@ -268,15 +339,18 @@ pub extern "C" fn varitmol_prepare(
         second_lstrip,
         second_rstrip,
         step_bytes,
-        steps_from(step_kinds, step_spans),
-        step_kinds.len(),
-        metaspace_from(metaspace, split),
-        adjacency,
-        index,
-    )
+        step_kinds,
+        step_spans,
+        metaspace,
+        split,
+    ) {
+        Ok(model) => Answer::from(prepare::prepare(&model, adjacency, index)),
+        Err(refusal) => Answer::from(refusal),
+    }
 }
 
 // `encode::encode`.
+#[tactic(auto, unfolding(crate::specs::Numbers::answered_scratch))]
 #[unsafe(no_mangle)]
 pub extern "C" fn varitmol_encode(
     piece_bytes: &[u8],
@@ -310,10 +384,7 @@ pub extern "C" fn varitmol_encode(
 ) -> Answer
     ensures { ◌≡◌ {A = ScratchOutcome} (record { answer = result; out = out.new; scratch_a = scratch_a.new; scratch_b = scratch_b.new }) (answered_scratch (wrong_numbers step_kinds.now step_spans.now metaspace split) out.old scratch_a.old scratch_b.old (encode_outcome (model_of piece_bytes.now piece_offsets.now lookup.now fallback.now left.now right.now res.now rank.now (token_list first_bytes.now first_offsets.now first_ids.now first_lstrip.now first_rstrip.now) (token_list second_bytes.now second_offsets.now second_ids.now second_lstrip.now second_rstrip.now) step_bytes.now (steps_from step_kinds.now step_spans.now) (length step_kinds.now) (metaspace_from metaspace split)) text.now continuation out.old scratch_a.old scratch_b.old)) }
 {
-    if wrong_numbers(step_kinds, step_spans, metaspace, split) {
-        return Answer::refused(model::WRONG_SIZE, 0);
-    }
-    encode::encode(
+    match lent(
         piece_bytes,
         piece_offsets,
         lookup,
@@ -333,18 +404,25 @@ pub extern "C" fn varitmol_encode(
         second_lstrip,
         second_rstrip,
         step_bytes,
-        steps_from(step_kinds, step_spans),
-        step_kinds.len(),
-        metaspace_from(metaspace, split),
-        text,
-        continuation,
-        out,
-        scratch_a,
-        scratch_b,
-    )
+        step_kinds,
+        step_spans,
+        metaspace,
+        split,
+    ) {
+        Ok(model) => Answer::from(encode::encode(
+            &model,
+            text,
+            continuation,
+            out,
+            scratch_a,
+            scratch_b,
+        )),
+        Err(refusal) => Answer::from(refusal),
+    }
 }
 
 // `encode::encode_prepared`: whoever calls it answers for the model's check and for the two rows.
+#[tactic(auto, unfolding(crate::specs::Numbers::answered_scratch))]
 #[unsafe(no_mangle)]
 pub extern "C" fn varitmol_encode_prepared(
     piece_bytes: &[u8],
@@ -383,10 +461,7 @@ pub extern "C" fn varitmol_encode_prepared(
     requires index_derived { index.now ≡ derived_index (model_of piece_bytes.now piece_offsets.now lookup.now fallback.now left.now right.now res.now rank.now (token_list first_bytes.now first_offsets.now first_ids.now first_lstrip.now first_rstrip.now) (token_list second_bytes.now second_offsets.now second_ids.now second_lstrip.now second_rstrip.now) step_bytes.now (steps_from step_kinds.now step_spans.now) (length step_kinds.now) (metaspace_from metaspace split)) }
     ensures { ◌≡◌ {A = ScratchOutcome} (record { answer = result; out = out.new; scratch_a = scratch_a.new; scratch_b = scratch_b.new }) (answered_scratch (wrong_numbers step_kinds.now step_spans.now metaspace split) out.old scratch_a.old scratch_b.old (encode_outcome (model_of piece_bytes.now piece_offsets.now lookup.now fallback.now left.now right.now res.now rank.now (token_list first_bytes.now first_offsets.now first_ids.now first_lstrip.now first_rstrip.now) (token_list second_bytes.now second_offsets.now second_ids.now second_lstrip.now second_rstrip.now) step_bytes.now (steps_from step_kinds.now step_spans.now) (length step_kinds.now) (metaspace_from metaspace split)) text.now continuation out.old scratch_a.old scratch_b.old)) }
 {
-    if wrong_numbers(step_kinds, step_spans, metaspace, split) {
-        return Answer::refused(model::WRONG_SIZE, 0);
-    }
-    encode::encode_prepared(
+    match lent(
         piece_bytes,
         piece_offsets,
         lookup,
@@ -406,20 +481,32 @@ pub extern "C" fn varitmol_encode_prepared(
         second_lstrip,
         second_rstrip,
         step_bytes,
-        steps_from(step_kinds, step_spans),
-        step_kinds.len(),
-        metaspace_from(metaspace, split),
-        adjacency,
-        index,
-        text,
-        continuation,
-        out,
-        scratch_a,
-        scratch_b,
-    )
+        step_kinds,
+        step_spans,
+        metaspace,
+        split,
+    ) {
+        Ok(model) => {
+            let prepared = Prepared {
+                model: &model,
+                adjacency,
+                index,
+            };
+            Answer::from(encode::encode_prepared(
+                &prepared,
+                text,
+                continuation,
+                out,
+                scratch_a,
+                scratch_b,
+            ))
+        }
+        Err(refusal) => Answer::from(refusal),
+    }
 }
 
 // `fragments::fragments`.
+#[tactic(auto, unfolding(crate::specs::Numbers::answered_result))]
 #[unsafe(no_mangle)]
 pub extern "C" fn varitmol_fragments(
     piece_bytes: &[u8],
@@ -451,10 +538,7 @@ pub extern "C" fn varitmol_fragments(
 ) -> Answer
     ensures { ◌≡◌ {A = Outcome} (record { answer = result; out = out.new }) (answered_result (wrong_numbers step_kinds.now step_spans.now metaspace split) out.old (fragments_outcome (model_of piece_bytes.now piece_offsets.now lookup.now fallback.now left.now right.now res.now rank.now (token_list first_bytes.now first_offsets.now first_ids.now first_lstrip.now first_rstrip.now) (token_list second_bytes.now second_offsets.now second_ids.now second_lstrip.now second_rstrip.now) step_bytes.now (steps_from step_kinds.now step_spans.now) (length step_kinds.now) (metaspace_from metaspace split)) text.now target out.old)) }
 {
-    if wrong_numbers(step_kinds, step_spans, metaspace, split) {
-        return Answer::refused(model::WRONG_SIZE, 0);
-    }
-    fragments::fragments(
+    match lent(
         piece_bytes,
         piece_offsets,
         lookup,
@@ -474,16 +558,18 @@ pub extern "C" fn varitmol_fragments(
         second_lstrip,
         second_rstrip,
         step_bytes,
-        steps_from(step_kinds, step_spans),
-        step_kinds.len(),
-        metaspace_from(metaspace, split),
-        text,
-        target,
-        out,
-    )
+        step_kinds,
+        step_spans,
+        metaspace,
+        split,
+    ) {
+        Ok(model) => Answer::from(fragments::fragments(&model, text, target, out)),
+        Err(refusal) => Answer::from(refusal),
+    }
 }
 
 // `fragments::fragments_prepared`: whoever calls it answers for the model's check and for the two rows.
+#[tactic(auto, unfolding(crate::specs::Numbers::answered_result))]
 #[unsafe(no_mangle)]
 pub extern "C" fn varitmol_fragments_prepared(
     piece_bytes: &[u8],
@@ -520,10 +606,7 @@ pub extern "C" fn varitmol_fragments_prepared(
     requires index_derived { index.now ≡ derived_index (model_of piece_bytes.now piece_offsets.now lookup.now fallback.now left.now right.now res.now rank.now (token_list first_bytes.now first_offsets.now first_ids.now first_lstrip.now first_rstrip.now) (token_list second_bytes.now second_offsets.now second_ids.now second_lstrip.now second_rstrip.now) step_bytes.now (steps_from step_kinds.now step_spans.now) (length step_kinds.now) (metaspace_from metaspace split)) }
     ensures { ◌≡◌ {A = Outcome} (record { answer = result; out = out.new }) (answered_result (wrong_numbers step_kinds.now step_spans.now metaspace split) out.old (fragments_outcome (model_of piece_bytes.now piece_offsets.now lookup.now fallback.now left.now right.now res.now rank.now (token_list first_bytes.now first_offsets.now first_ids.now first_lstrip.now first_rstrip.now) (token_list second_bytes.now second_offsets.now second_ids.now second_lstrip.now second_rstrip.now) step_bytes.now (steps_from step_kinds.now step_spans.now) (length step_kinds.now) (metaspace_from metaspace split)) text.now target out.old)) }
 {
-    if wrong_numbers(step_kinds, step_spans, metaspace, split) {
-        return Answer::refused(model::WRONG_SIZE, 0);
-    }
-    fragments::fragments_prepared(
+    match lent(
         piece_bytes,
         piece_offsets,
         lookup,
@@ -543,18 +626,25 @@ pub extern "C" fn varitmol_fragments_prepared(
         second_lstrip,
         second_rstrip,
         step_bytes,
-        steps_from(step_kinds, step_spans),
-        step_kinds.len(),
-        metaspace_from(metaspace, split),
-        adjacency,
-        index,
-        text,
-        target,
-        out,
-    )
+        step_kinds,
+        step_spans,
+        metaspace,
+        split,
+    ) {
+        Ok(model) => {
+            let prepared = Prepared {
+                model: &model,
+                adjacency,
+                index,
+            };
+            Answer::from(fragments::fragments_prepared(&prepared, text, target, out))
+        }
+        Err(refusal) => Answer::from(refusal),
+    }
 }
 
 // `decode::decode`.
+#[tactic(auto, unfolding(crate::specs::Numbers::answered_result))]
 #[unsafe(no_mangle)]
 pub extern "C" fn varitmol_decode(
     piece_bytes: &[u8],
@@ -585,10 +675,7 @@ pub extern "C" fn varitmol_decode(
 ) -> Answer
     ensures { ◌≡◌ {A = Outcome} (record { answer = result; out = out.new }) (answered_result (wrong_numbers step_kinds.now step_spans.now metaspace split) out.old (decode_outcome (model_of piece_bytes.now piece_offsets.now lookup.now fallback.now left.now right.now res.now rank.now (token_list first_bytes.now first_offsets.now first_ids.now first_lstrip.now first_rstrip.now) (token_list second_bytes.now second_offsets.now second_ids.now second_lstrip.now second_rstrip.now) step_bytes.now (steps_from step_kinds.now step_spans.now) (length step_kinds.now) (metaspace_from metaspace split)) ids.now out.old)) }
 {
-    if wrong_numbers(step_kinds, step_spans, metaspace, split) {
-        return Answer::refused(model::WRONG_SIZE, 0);
-    }
-    decode::decode(
+    match lent(
         piece_bytes,
         piece_offsets,
         lookup,
@@ -608,15 +695,18 @@ pub extern "C" fn varitmol_decode(
         second_lstrip,
         second_rstrip,
         step_bytes,
-        steps_from(step_kinds, step_spans),
-        step_kinds.len(),
-        metaspace_from(metaspace, split),
-        ids,
-        out,
-    )
+        step_kinds,
+        step_spans,
+        metaspace,
+        split,
+    ) {
+        Ok(model) => Answer::from(decode::decode(&model, ids, out)),
+        Err(refusal) => Answer::from(refusal),
+    }
 }
 
 // `decode::decode_checked`: whoever calls it answers for the model's check.
+#[tactic(auto, unfolding(crate::specs::Numbers::answered_result))]
 #[unsafe(no_mangle)]
 pub extern "C" fn varitmol_decode_checked(
     piece_bytes: &[u8],
@@ -648,10 +738,7 @@ pub extern "C" fn varitmol_decode_checked(
     requires { check_number (model_of piece_bytes.now piece_offsets.now lookup.now fallback.now left.now right.now res.now rank.now (token_list first_bytes.now first_offsets.now first_ids.now first_lstrip.now first_rstrip.now) (token_list second_bytes.now second_offsets.now second_ids.now second_lstrip.now second_rstrip.now) step_bytes.now (steps_from step_kinds.now step_spans.now) (length step_kinds.now) (metaspace_from metaspace split)) ≡ 0 }
     ensures { ◌≡◌ {A = Outcome} (record { answer = result; out = out.new }) (answered_result (wrong_numbers step_kinds.now step_spans.now metaspace split) out.old (decode_outcome (model_of piece_bytes.now piece_offsets.now lookup.now fallback.now left.now right.now res.now rank.now (token_list first_bytes.now first_offsets.now first_ids.now first_lstrip.now first_rstrip.now) (token_list second_bytes.now second_offsets.now second_ids.now second_lstrip.now second_rstrip.now) step_bytes.now (steps_from step_kinds.now step_spans.now) (length step_kinds.now) (metaspace_from metaspace split)) ids.now out.old)) }
 {
-    if wrong_numbers(step_kinds, step_spans, metaspace, split) {
-        return Answer::refused(model::WRONG_SIZE, 0);
-    }
-    decode::decode_checked(
+    match lent(
         piece_bytes,
         piece_offsets,
         lookup,
@@ -671,10 +758,12 @@ pub extern "C" fn varitmol_decode_checked(
         second_lstrip,
         second_rstrip,
         step_bytes,
-        steps_from(step_kinds, step_spans),
-        step_kinds.len(),
-        metaspace_from(metaspace, split),
-        ids,
-        out,
-    )
+        step_kinds,
+        step_spans,
+        metaspace,
+        split,
+    ) {
+        Ok(model) => Answer::from(decode::decode_checked(&model, ids, out)),
+        Err(refusal) => Answer::from(refusal),
+    }
 }

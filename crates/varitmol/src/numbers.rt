@@ -8,7 +8,7 @@ use model::{Metaspace, PrependScheme, Span, Step};
 // The steps that a model has at most.
 const STEP_LIMIT: usize = 16;
 
-// The kinds of a step, which are its variants in their order.
+// The kinds of a step, which are its variants in their order: an exported function takes no enum, so they come as numbers.
 const PREPEND: u8 = 0;
 
 const REPLACE: u8 = 1;
@@ -27,6 +27,7 @@ const ALWAYS: u8 = 2;
 const FIRST: u8 = 3;
 
 // The number at `k` of the step at `i`.
+#[tactic(auto, unfolding(crate::specs::Numbers::step_number))]
 fn step_number(spans: &[u32], i: usize, k: usize) -> u32
     requires i_bound { i < 16 }
     requires k_bound { k < 4 }
@@ -35,44 +36,40 @@ fn step_number(spans: &[u32], i: usize, k: usize) -> u32
     number_at(spans, i * 4 + k)
 }
 
+#[tactic(auto, unfolding(crate::specs::Numbers::span_at))]
 fn span_at(spans: &[u32], i: usize, k: usize) -> Span
     requires i_bound { i < 16 }
     requires k_bound { k < 3 }
     ensures { result ≡ span_at spans.now i k }
 {
-    let place = step_number(spans, i, k);
-    let len = step_number(spans, i, k + 1);
-    Span { place, len }
+    Span {
+        place: step_number(spans, i, k),
+        len: step_number(spans, i, k + 1),
+    }
 }
 
+#[tactic(auto, unfolding(crate::specs::Numbers::step_of))]
 fn step_of(kind: u8, spans: &[u32], i: usize) -> Step
     requires { i < 16 }
     ensures { result ≡ step_of kind spans.now i }
 {
-    if kind == PREPEND {
-        return Step::Prepend(span_at(spans, i, 0));
+    match kind {
+        PREPEND => Step::Prepend(span_at(spans, i, 0)),
+        REPLACE => Step::Replace {
+            pattern: span_at(spans, i, 0),
+            content: span_at(spans, i, 2),
+        },
+        COLLAPSE_SPACES => Step::CollapseSpaces {
+            content: span_at(spans, i, 0),
+        },
+        _ => Step::Strip {
+            left: step_number(spans, i, 0) == 1,
+            right: step_number(spans, i, 1) == 1,
+        },
     }
-    if kind == REPLACE {
-        let pattern = span_at(spans, i, 0);
-        let content = span_at(spans, i, 2);
-        return Step::Replace { pattern, content };
-    }
-    if kind == COLLAPSE_SPACES {
-        let content = span_at(spans, i, 0);
-        return Step::CollapseSpaces { content };
-    }
-    let left = step_number(spans, i, 0) == 1;
-    let right = step_number(spans, i, 1) == 1;
-    Step::Strip { left, right }
 }
 
-// The kind at `i`; behind the last one a Strip.
-fn kind_at(kinds: &[u8], i: usize) -> u8
-    ensures { result ≡ get_or kinds.now i 3 }
-{
-    if i < kinds.len() { kinds[i] } else { STRIP }
-}
-
+// The 16 steps; behind the last kind a Strip.
 pub fn steps_from(kinds: &[u8], spans: &[u32]) -> [Step; 16]
     ensures { result ≡ steps_from kinds.now spans.now }
 {
@@ -80,83 +77,64 @@ pub fn steps_from(kinds: &[u8], spans: &[u32]) -> [Step; 16]
         left: false,
         right: false,
     };
-    let mut steps = [nothing; 16];
-    let mut i = 0;
-    while i < STEP_LIMIT {
-        steps[i] = step_of(kind_at(kinds, i), spans, i);
-        i += 1;
+    let mut steps = [nothing; STEP_LIMIT];
+    for i in 0..STEP_LIMIT {
+        let kind = kinds.get(i).copied().unwrap_or(STRIP);
+        steps[i] = step_of(kind, spans, i);
     }
     steps
 }
 
+#[tactic(auto, unfolding(crate::specs::Numbers::scheme_of))]
 fn scheme_of(number: u8) -> PrependScheme
     ensures { result ≡ scheme_of number }
 {
-    if number == NEVER {
-        return PrependScheme::Never;
+    match number {
+        NEVER => PrependScheme::Never,
+        ALWAYS => PrependScheme::Always,
+        _ => PrependScheme::First,
     }
-    if number == ALWAYS {
-        return PrependScheme::Always;
-    }
-    PrependScheme::First
 }
 
-pub fn metaspace_from(metaspace: u8, split: u8) -> Metaspace
+#[tactic(auto, unfolding(crate::specs::Numbers::metaspace_from))]
+pub fn metaspace_from(metaspace: u8, split: u8) -> Option<Metaspace>
     ensures { result ≡ metaspace_from metaspace split }
 {
     if metaspace == ABSENT {
-        return Metaspace::Absent;
+        return None;
     }
-    let prepend = scheme_of(metaspace);
-    let split = split == 1;
-    Metaspace::Present { prepend, split }
+    Some(Metaspace {
+        prepend: scheme_of(metaspace),
+        split: split == 1,
+    })
 }
 
+#[tactic(auto, unfolding(crate::specs::Numbers::wrong_step))]
 fn wrong_step(spans: &[u32], i: usize, kind: u8) -> bool
     requires { i < 16 }
     ensures { result ≡ wrong_step spans.now (i, kind) }
 {
-    if STRIP < kind {
-        return true;
-    }
-    if kind != STRIP {
-        return false;
-    }
-    if 1 < step_number(spans, i, 0) {
-        return true;
-    }
-    1 < step_number(spans, i, 1)
+    STRIP < kind || kind == STRIP && (1 < step_number(spans, i, 0) || 1 < step_number(spans, i, 1))
 }
 
 fn wrong_steps(kinds: &[u8], spans: &[u32]) -> bool
     requires { length kinds.now ≤ 16 }
     ensures { result ≡ wrong_steps kinds.now spans.now }
 {
-    let mut i = 0;
-    while i < kinds.len() {
-        if wrong_step(spans, i, kinds[i]) {
-            return true;
-        }
-        i += 1;
-    }
-    false
+    kinds
+        .iter()
+        .enumerate()
+        .any(|(i, kind)| wrong_step(spans, i, *kind))
 }
 
 // Whether the numbers are wrong: they stand for no steps, or for no metaspace.
+#[tactic(auto, unfolding(crate::specs::Numbers::wrong_numbers))]
 pub fn wrong_numbers(kinds: &[u8], spans: &[u32], metaspace: u8, split: u8) -> bool
     ensures { result ≡ wrong_numbers kinds.now spans.now metaspace split }
 {
-    if STEP_LIMIT < kinds.len() {
-        return true;
-    }
-    if spans.len() != kinds.len() * 4 {
-        return true;
-    }
-    if wrong_steps(kinds, spans) {
-        return true;
-    }
-    if FIRST < metaspace {
-        return true;
-    }
-    1 < split
+    STEP_LIMIT < kinds.len()
+        || spans.len() != kinds.len() * 4
+        || wrong_steps(kinds, spans)
+        || FIRST < metaspace
+        || 1 < split
 }

@@ -1,7 +1,7 @@
 -- `decode::decode_checked` meets its contract: the list's size, and then the ids. Assumes nothing.
 use mathlib.Core.Path.{◌≡◌, refl, ◌∙◌}
 use mathlib.Core.Bool.{Bool, true, false, not}
-use Rattle.model.specs.Model.{model_of, token_list, pieces_of, steps_of}
+use Rattle.model.specs.Model.{columns, pieces_of, steps_of}
 use Rattle.model.proofs.Accepted.{accepted}
 use Rattle.decode.proofs.DecodeLaws.{Lent, long_list, good_list, list_room}
 use Rattle.decode.proofs.decode_checked.Goals as goal
@@ -9,23 +9,14 @@ use Rattle.decode.proofs.decode_checked.Goals.{Start}
 
 -- what the call is lent
 abbrev lent : Start → Lent
-lent s =
-    record {
-      model =
-          model_of s.args.piece_bytes.now s.args.piece_offsets.now s.args.lookup.now s.args.fallback.now s.args.left.now s.args.right.now s.args.res.now s.args.rank.now
-          (token_list s.args.first_bytes.now s.args.first_offsets.now s.args.first_ids.now s.args.first_lstrip.now s.args.first_rstrip.now)
-          (token_list s.args.second_bytes.now s.args.second_offsets.now s.args.second_ids.now s.args.second_lstrip.now s.args.second_rstrip.now)
-          s.args.step_bytes.now s.args.steps s.args.step_count s.args.metaspace;
-      ids = s.args.ids.now;
-      out = s.args.out.now;
-    }
+lent s = record { model = columns s.args.model.now; ids = s.args.ids.now; out = s.args.out.now }
 
 not-not : (b : Bool) → not (not b) ≡ b
 not-not true = refl
 not-not false = refl
 
 pub returns-then-ids-gt-TEXT_LIMIT : goal.returns-then-ids-gt-TEXT_LIMIT
-returns-then-ids-gt-TEXT_LIMIT c = long_list (lent (goal.at.returns-then-ids-gt-TEXT_LIMIT c).Start) _ c.refused.ensures c.if-ids-gt-TEXT_LIMIT.true
+returns-then-ids-gt-TEXT_LIMIT c = long_list (lent (goal.at.returns-then-ids-gt-TEXT_LIMIT c).Start) _ refl c.if-ids-gt-TEXT_LIMIT.true
 
 pub prepends_space-gone-requires : goal.prepends_space-gone-requires
 prepends_space-gone-requires c = let s = (goal.at.prepends_space-gone-requires c).Start in (accepted (lent s).model s.requires).sizes.steps

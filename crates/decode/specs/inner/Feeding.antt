@@ -1,6 +1,7 @@
 -- Bytes fed one after the other to a state: which characters and stray bytes each of them settles, which bytes stay held, and what
 -- is put out for what is settled.
-use Rattle.std.specs.Prelude.{ℕ, ◌+◌, ◌≤◌, ◌≡◌, Bool, true, false, not, cond, ◌&&◌, ◌||◌, List, [], ◌∷◌, ◌++◌, map, eqb, ltb, length, take}
+use Rattle.std.specs.Prelude.{ℕ, ◌+◌, ◌≤◌, ◌≡◌, Bool, true, false, not, cond, ◌&&◌, ◌||◌, List, [], ◌∷◌, ◌++◌, map, eqb, ltb, length, take, Option}
+use Rattle.std.specs.Bool.{then_some}
 use Rattle.std.proofs.lemmas.List.Edits.{sets}
 use Rattle.utf8.specs.Lists.{is_empty, join_map, same, Range, within}
 use Rattle.utf8.specs.Chars.{char_forms, chars, is_char}
@@ -8,6 +9,8 @@ use Rattle.model.specs.Model.{piece}
 use Rattle.model.specs.Mark.{mark, space}
 use Rattle.model.specs.Answers.{done, refused, filled, Outcome}
 use Rattle.decode.specs.Decode.{joined_bytes, skips, replacement}
+use Rattle.decode.specs.declared.Held.{Held}
+use Rattle.decode.specs.declared.Held.TheVariants.{Nothing, One, Two, Three}
 use Rattle.decode.specs.declared.Decoder.{Decoder}
 use Rattle.decode.specs.declared.Progress.{Progress}
 
@@ -82,25 +85,38 @@ shown_text gone (c ∷ cs) = shown_first gone c ++ join_map shown cs
 
 -- ---- the state
 
+abbrev pub bytes_of : Held → List ℕ
+bytes_of Nothing = []
+bytes_of (One a) = a ∷ []
+bytes_of (Two a b) = a ∷ b ∷ []
+bytes_of (Three a b c) = a ∷ b ∷ c ∷ []
+
+-- What holds these bytes, of which there are three at the most.
+abbrev pub held_of : List ℕ → Held
+held_of [] = Nothing
+held_of (a ∷ []) = One a
+held_of (a ∷ b ∷ []) = Two a b
+held_of (a ∷ b ∷ c ∷ bytes) = Three a b c
+
+-- One byte more, where they can still become a character.
+unfoldable pub longer : List ℕ → ℕ → Option Held
+longer held b = then_some (is_open (held ++ (b ∷ []))) (held_of (held ++ (b ∷ [])))
+
 -- The bytes that a state holds.
-unfoldable pub held_by : Decoder → List ℕ
-held_by s = take s.count (s.first ∷ s.second ∷ s.third ∷ [])
+abbrev pub held_by : Decoder → List ℕ
+held_by s = bytes_of s.held
 
--- The state that holds these bytes, of which there are three at the most.
+-- The state that holds these bytes.
 unfoldable pub holding : List ℕ → Bool → Decoder
-holding [] begun = record { count = 0; first = 0; second = 0; third = 0; begun = begun }
-holding (a ∷ []) begun = record { count = 1; first = a; second = 0; third = 0; begun = begun }
-holding (a ∷ b ∷ []) begun = record { count = 2; first = a; second = b; third = 0; begun = begun }
-holding (a ∷ b ∷ c ∷ bytes) begun = record { count = 3; first = a; second = b; third = c; begun = begun }
+holding bytes begun = record { held = held_of bytes; begun = begun }
 
--- A state that bytes can lead to: what it holds can still become a character, and nothing lies behind it.
+-- A state that bytes can lead to: what it holds can still become a character.
 pub record Sound (s : Decoder) : Type 0 where
   pub unfinished : is_open (held_by s) ≡ true
-  pub form : s ≡ holding (held_by s) s.begun
 
 -- Nothing is held, and the first character is settled: a character that is whole can be put out as it is.
 unfoldable pub is_idle : Decoder → Bool
-is_idle s = eqb s.count 0 && s.begun
+is_idle s = is_empty (held_by s) && s.begun
 
 -- How far the work has come, and the buffer.
 pub record Fed : Type 0 where

@@ -1,12 +1,9 @@
--- Bytes in one number, and short pieces of characters of one byte.
-use Rattle.std.specs.Prelude.{ℕ, zero, suc, ◌+◌, ◌%◌, ◌/◌, Bool, cond, ◌&&◌, ◌||◌, List, [], ◌∷◌, leb, ltb, length, take, drop}
+-- Short pieces of characters of one byte.
+use Rattle.std.specs.Prelude.{ℕ, ◌+◌, Bool, cond, ◌&&◌, ◌||◌, List, ◌∷◌, leb, ltb, length, take, drop, Option}
+use Rattle.std.specs.Bool.{then_some}
 use Rattle.utf8.specs.Lists.{all, starts_with}
 use Rattle.model.specs.Mark.{mark}
-
--- The n lowest bytes of a number, the lowest first.
-unfoldable pub bytes_in : ℕ → ℕ → List ℕ
-bytes_in zero word = []
-bytes_in (suc n) word = word % 256 ∷ bytes_in n (word / 256)
+use Rattle.decode.specs.declared.words.Shown.{Shown}
 
 -- A character of one byte.
 abbrev pub is_plain : ℕ → Bool
@@ -26,6 +23,11 @@ unfoldable pub quick_at : List ℕ → ℕ → ℕ → Bool
 quick_at bytes start len =
     let text = head_spaced (take len (drop start bytes)) in
     leb (start + 16) (length bytes) && (ltb len 10 && (ltb (length text) 8 && all is_plain text))
+
+-- What such a piece is shown as, where it is one.
+unfoldable pub shown_at : List ℕ → ℕ → ℕ → Option Shown
+shown_at bytes start len =
+    then_some (quick_at bytes start len) (record { eight = eight_at bytes start len; len = length (head_spaced (take len (drop start bytes))) })
 
 -- A buffer has cells for all of eight bytes at a place, or for none.
 unfoldable pub all_or_none : ℕ → ℕ → Bool

@@ -1,47 +1,56 @@
--- `encode::encode` meets its contract: the text's size, the model check, what is derived of the model, and then the prepared twin.
-use mathlib.Core.Path.{◌≡◌, sym, ◌∙◌}
+-- `encode::encode` meets its contract: the text's size, the model check, what is derived of the model, and then the accepted model.
+use Rattle.std.proofs.lemmas.Result.{err_from_is_err_and}
 use Prim.Native.Nat.{ℕ}
+use native.Mathlib.Omega.{arith}
+use mathlib.Core.Path.{◌≡◌, refl, sym, ap, ◌∙◌}
 use lib.ListN.{length-replicate}
 use Rattle.model.specs.Check.{check_number}
-use Rattle.model.specs.Model.{model_of, token_list}
-use Rattle.model.proofs.AnswerLaws.{number-checked}
+use Rattle.model.specs.Model.{columns}
+use Rattle.model.proofs.AnswerLaws.{number-checked, refusal_number}
+use Rattle.prepare.specs.Prepare.{PrepareOutcome}
+use Rattle.prepare.proofs.PrepareLaws.{prepared}
 use Rattle.prepare.proofs.PreparedLaws.{rows_derived, index_derived}
 use Rattle.encode.proofs.EncodeLaws.{Lent, long_text, bad_model}
 use Rattle.encode.proofs.encode.Goals as goal
-use Rattle.encode.proofs.encode.Goals.{Else-checked-ne0, Start}
+use Rattle.encode.proofs.encode.Goals.{In_ok-check, Start}
 
 -- what the call is lent
 abbrev lent : Start → Lent
-lent s =
-    record {
-      model =
-          model_of s.args.piece_bytes.now s.args.piece_offsets.now s.args.lookup.now s.args.fallback.now s.args.left.now s.args.right.now s.args.res.now s.args.rank.now
-          (token_list s.args.first_bytes.now s.args.first_offsets.now s.args.first_ids.now s.args.first_lstrip.now s.args.first_rstrip.now)
-          (token_list s.args.second_bytes.now s.args.second_offsets.now s.args.second_ids.now s.args.second_lstrip.now s.args.second_rstrip.now)
-          s.args.step_bytes.now s.args.steps s.args.step_count s.args.metaspace;
-      text = s.args.text.now;
-      continuation = s.args.continuation;
-      out = s.args.out.now;
-      scratch_a = s.args.scratch_a.now;
-      scratch_b = s.args.scratch_b.now;
-    }
+lent s = record {
+  model = columns s.args.model.now;
+  text = s.args.text.now;
+  continuation = s.args.continuation;
+  out = s.args.out.now;
+  scratch_a = s.args.scratch_a.now;
+  scratch_b = s.args.scratch_b.now;
+}
 
-fine : (e : Else-checked-ne0) → check_number (lent (goal.at.Else-checked-ne0 e).Start).model ≡ 0
-fine e = sym (number-checked (lent (goal.at.Else-checked-ne0 e).Start).model _ e.check-checked.ensures) ∙ e.if-checked-ne0.false
+fine : (e : In_ok-check) → check_number (columns e.args.model.now) ≡ 0
+fine e = sym (number-checked (columns e.args.model.now) _ e.in_ok-check.ensures)
 
 pub returns-then-text-gt-TEXT_LIMIT : goal.returns-then-text-gt-TEXT_LIMIT
-returns-then-text-gt-TEXT_LIMIT c = long_text (lent (goal.at.returns-then-text-gt-TEXT_LIMIT c).Start) _ c.refused.ensures c.if-text-gt-TEXT_LIMIT.true
+returns-then-text-gt-TEXT_LIMIT c = long_text (lent (goal.at.returns-then-text-gt-TEXT_LIMIT c).Start) _ refl c.if-text-gt-TEXT_LIMIT.true
 
-pub returns-then-checked-ne0 : goal.returns-then-checked-ne0
-returns-then-checked-ne0 c = bad_model (lent (goal.at.returns-then-checked-ne0 c).Start) _ c.check-checked.ensures c.if-text-gt-TEXT_LIMIT.false c.if-checked-ne0.true
+pub returns-in_err-check : goal.returns-in_err-check
+returns-in_err-check c =
+    let p = err_from_is_err_and c.from_residual.result c.from_residual.ensures.1 in
+    rw (p.1, p.2) (bad_model (lent (goal.at.returns-in_err-check c).Start) _ c.in_err-check.ensures c.if-text-gt-TEXT_LIMIT.false (refusal_number c.in_err-check.field-0.0))
 
 pub prepare_checked-requires : goal.prepare_checked-requires
-prepare_checked-requires c = fine (goal.at.prepare_checked-requires c).Else-checked-ne0
+prepare_checked-requires c = fine (goal.at.prepare_checked-requires c).In_ok-check
 
-pub encode_prepared-requires : goal.encode_prepared-requires
-encode_prepared-requires c = let e = (goal.at.encode_prepared-requires c).Else-checked-ne0 in
-    let m = (lent (goal.at.encode_prepared-requires c).Start).model in
-    record { accepted = fine e; adjacency_derived = rows_derived m (fine e) _ _ (length-replicate {A = ℕ} 1024 0) (length-replicate {A = ℕ} 169032 0) c.prepare_checked.ensures; index_derived = index_derived m (fine e) _ _ (length-replicate {A = ℕ} 1024 0) (length-replicate {A = ℕ} 169032 0) c.prepare_checked.ensures }
+pub returns-in_err-prepare_checked : goal.returns-in_err-prepare_checked
+returns-in_err-prepare_checked c =
+    let e = fine (goal.at.returns-in_err-prepare_checked c).In_ok-check in
+    let long = prepared (columns c.args.model.now) _ _ e (omega (arith, length-replicate {A = ℕ} 1024 0)) (omega (arith, length-replicate {A = ℕ} 169032 0)) in
+    absurd (refusal_number c.in_err-prepare_checked.field-0.0 (ap (λ (o : PrepareOutcome). o.answer.number) (c.in_err-prepare_checked.ensures ∙ long)))
 
-pub returns : goal.returns
-returns c = c.encode_prepared.ensures
+pub invariant_of-encode_short : goal.invariant_of-encode_short
+invariant_of-encode_short c =
+    let m = columns c.args.model.now in
+    let e = fine (goal.at.invariant_of-encode_short c).In_ok-check in
+    record {
+      accepted = e;
+      adjacency_derived = rows_derived m e _ _ (length-replicate {A = ℕ} 1024 0) (length-replicate {A = ℕ} 169032 0) c.prepare_checked.ensures;
+      index_derived = index_derived m e _ _ (length-replicate {A = ℕ} 1024 0) (length-replicate {A = ℕ} 169032 0) c.prepare_checked.ensures;
+    }

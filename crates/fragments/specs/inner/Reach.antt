@@ -1,17 +1,11 @@
 -- Blocks by where they begin: how far those reach that begin before a place, and whether one begins ahead of it.
-use Rattle.std.specs.Prelude.{ℕ, suc, ◌+◌, ◌-◌, ◌≤◌, ◌<◌, max, ◌≡◌, Bool, true, false, not, cond, ◌&&◌, List, [], ◌∷◌, ltb, leb, length, drop}
+use Rattle.std.specs.Prelude.{ℕ, suc, ◌+◌, ◌-◌, max, ◌≡◌, Bool, false, not, cond, ◌&&◌, List, [], ◌∷◌, ltb, leb, length, drop}
 use Rattle.utf8.specs.Lists.{any, below, count_from, starts_with}
-use Rattle.utf8.specs.Chars.{tail, has_form, valid}
-use Rattle.model.specs.Model.{TokenList, token_list, contents, token_at}
-use Rattle.model.specs.Check.{bad_token}
-use Rattle.sections.specs.Beginnings.{beginnings}
+use Rattle.utf8.specs.Chars.{tail, has_form}
+use Rattle.model.specs.Model.{TokenList, contents, token_at}
 use Rattle.sections.specs.Sections.{white_length}
 use Rattle.fragments.specs.Safe.{makes_blocks, block_end, blocked_by}
 use Rattle.fragments.specs.inner.Most.{most}
-
--- The tokens of a list, whose ids do not matter here.
-abbrev pub tokens_of : List ℕ → List ℕ → List Bool → List Bool → TokenList
-tokens_of bytes offsets lstrip rstrip = token_list bytes offsets [] lstrip rstrip
 
 -- A flag is as asked for.
 abbrev pub is_as : Bool → Bool → Bool
@@ -20,21 +14,6 @@ is_as wanted flag = cond wanted flag (not flag)
 -- No UTF8-tail stands at the place.
 abbrev pub Edge : List ℕ → ℕ → Type 0
 Edge text p = has_form (tail ∷ []) (drop p text) ≡ false
-
--- The text is valid, and so are the contents, of which none is empty.
-pub record Fine (t : TokenList) (text : List ℕ) : Type 0 where
-  pub text_valid : valid text ≡ true
-  pub contents-fine : bad_token (contents t) ≡ false
-
--- No content is longer than that.
-pub record Longest (t : TokenList) (n : ℕ) : Type 0 where
-  pub bounds : (row : ℕ) → row < length (contents t) → length (token_at t row).content ≤ n
-
--- What is given with the tokens of a list: for each byte whether a content begins with it, and how long contents are at most.
-pub record Given (t : TokenList) (begins : List ℕ) (longest : ℕ) (text : List ℕ) : Type 0 where
-  pub fine : Fine t text
-  pub first : begins ≡ beginnings (contents t) (length begins)
-  pub long : Longest t longest
 
 -- Where a block ends, by where its token ends: without rstrip, and with it, if the token reaches the white space that begins at stop.
 unfoldable pub plain_far : Bool → ℕ → ℕ

@@ -1,6 +1,5 @@
 -- The search for the next safe place, and what is known while it goes on.
-use Rattle.std.specs.Prelude.{ℕ, ◌-◌, ◌≤◌, ◌<◌, ◌≡◌, Bool, true, false, not, cond, ◌&&◌, List, [], ◌∷◌, ◌++◌, ltb, length}
-use Rattle.std.proofs.Math.Option.{Option, none, some}
+use Rattle.std.specs.Prelude.{ℕ, ◌-◌, ◌≤◌, ◌<◌, ◌≡◌, Bool, true, false, not, cond, ◌&&◌, List, [], ◌∷◌, ◌++◌, ltb, length, Option, None, Some}
 use Rattle.utf8.specs.Lists.{find, filter, neighbours, join_map, below, count_from}
 use Rattle.model.specs.Answers.{Outcome, outcome, done}
 use Rattle.model.specs.Model.{TokenList}
@@ -14,8 +13,8 @@ use Rattle.fragments.specs.declared.Verdict.TheVariants.{Blocked, Free}
 use Rattle.fragments.specs.declared.Cut.{Cut}
 
 abbrev pub place_or : ℕ → Option ℕ → ℕ
-place_or n none = n
-place_or n (some p) = p
+place_or n None = n
+place_or n (Some p) = p
 
 -- The first place from p on that passes the test, or the end, n.
 unfoldable pub first_from : (ℕ → Bool) → ℕ → ℕ → ℕ
@@ -53,6 +52,11 @@ Judged unguarded t text p (Free ahead) = FreeAt unguarded t text p ahead
 pub record NextCut (kind : WordSplit) (noted : List Crossing) (unguarded : Bool) (t : TokenList) (text : List ℕ) (from : ℕ) (cut : Cut) : Type 0 where
   pub is : cut.place ≡ first_from (safe_in kind noted unguarded t text) (length text) from
   pub known : cut.place < length text → Known unguarded t text cut.place cut.ahead cut.place
+
+-- What a search for one says: there is none, or this one.
+abbrev pub NextOf : WordSplit → List Crossing → Bool → TokenList → List ℕ → ℕ → Option Cut → Type 0
+NextOf kind noted unguarded t text from None = first_from (safe_in kind noted unguarded t text) (length text) from ≡ length text
+NextOf kind noted unguarded t text from (Some cut) = (cut.place < length text) × NextCut kind noted unguarded t text from cut
 
 -- The cuts of n places, by which of them are safe and how far one is from the last at least.
 unfoldable pub cuts_in : (ℕ → Bool) → ℕ → ℕ → List ℕ

@@ -1,6 +1,4 @@
 -- `index::id_of` meets its contract.
-use mathlib.Core.Path.{ap}
-use mathlib.Core.Option.{some}
 use borrow.Author.Tests.{eq-eqb, ne_eqb}
 use Rattle.model.specs.Model.{no_id}
 use Rattle.index.specs.inner.Find.{id_of}
@@ -10,6 +8,6 @@ pub returns-then-id-eq-NO_ID : goal.returns-then-id-eq-NO_ID
 unfolding id_of
 returns-then-id-eq-NO_ID c = rw (eq-eqb c.args.id no_id c.if-id-eq-NO_ID.true)
 
-pub returns : goal.returns
+pub returns-else-id-eq-NO_ID : goal.returns-else-id-eq-NO_ID
 unfolding id_of
-returns c = rw (ne_eqb c.args.id no_id c.if-id-eq-NO_ID.false) (ap some c.wide.ensures.0)
+returns-else-id-eq-NO_ID c = rw (ne_eqb c.args.id no_id c.if-id-eq-NO_ID.false)

@@ -1,19 +1,16 @@
 -- Where searches that begin from derived tables end, on any tables.
-use Rattle.std.specs.Prelude.{ℕ, ◌+◌, ◌/◌, ◌^◌, min, Bool, cond, ◌&&◌, List, eqb, ltb, length, get_or}
-use Rattle.std.proofs.Math.Option.{Option, none, some}
+use Rattle.std.specs.Prelude.{ℕ, ◌+◌, ◌/◌, ◌^◌, min, Bool, cond, ◌&&◌, List, eqb, ltb, length, get_or, Option, None, Some}
 use Rattle.utf8.specs.Lists.{same}
 use Rattle.model.specs.Model.{no_id}
 use Rattle.model.specs.Mark.{mark}
 use Rattle.model.specs.inner.Search.{searched, piece_order, row_order, id_at}
-use Rattle.model.specs.declared.Found.{Found}
-use Rattle.model.specs.declared.Found.TheVariants.{At, Nothing}
 use Rattle.index.specs.Index.{first_byte_words, bucket_words, slot_count, pair_slot, second_slot, shared, named_row}
 use Rattle.index.specs.declared.Told.{Told}
 use Rattle.index.specs.declared.Told.TheVariants.{Row, NoRow, Elsewhere}
 
 -- The id that a number gives, where it does not stand for none.
 unfoldable pub id_of : ℕ → Option ℕ
-id_of id = cond (eqb id no_id) none (some id)
+id_of id = cond (eqb id no_id) None (Some id)
 
 -- Where the entries begin that a key's first byte has, and where they end: where the next byte's begin.
 unfoldable pub key_start : List ℕ → List ℕ → ℕ
@@ -34,10 +31,10 @@ id_from pieces lookup first_bytes mark_id key =
     (id_at lookup (searched (piece_order pieces lookup key) (key_start first_bytes key) (min (key_end first_bytes key) (length lookup)))))
 
 -- The place of a pair's row, by where the bucket of its left id begins and ends. A left id past the buckets has no row.
-unfoldable pub row_between : List ℕ → List ℕ → List ℕ → ℕ → ℕ → ℕ → Found
+unfoldable pub row_between : List ℕ → List ℕ → List ℕ → ℕ → ℕ → ℕ → Option ℕ
 row_between left right row_index shift l r =
     let b = l / 2 ^ shift in
-    cond (ltb (b + 1) bucket_words) (searched (row_order left right l r) (get_or row_index b 0) (min (get_or row_index (b + 1) 0) (length left))) Nothing
+    cond (ltb (b + 1) bucket_words) (searched (row_order left right l r) (get_or row_index b 0) (min (get_or row_index (b + 1) 0) (length left))) None
 
 -- The words of a pair in the two pair tables, behind the buckets.
 unfoldable pub pair_word : List ℕ → ℕ → ℕ → ℕ
@@ -58,15 +55,15 @@ told left right word l r =
     (cond (ltb word shared) NoRow Elsewhere))
 
 -- What was told, or else what is found elsewhere.
-abbrev pub told_or : Told → Found → Found
-told_or (Row row) found = At row
-told_or NoRow found = Nothing
+abbrev pub told_or : Told → Option ℕ → Option ℕ
+told_or (Row row) found = Some row
+told_or NoRow found = None
 told_or Elsewhere found = found
 
 -- The place of a pair's row by the pair's word in the second table, or else by the search.
-unfoldable pub row_beyond : List ℕ → List ℕ → List ℕ → ℕ → ℕ → ℕ → Found
+unfoldable pub row_beyond : List ℕ → List ℕ → List ℕ → ℕ → ℕ → ℕ → Option ℕ
 row_beyond left right row_index shift l r = told_or (told left right (second_word row_index l r) l r) (row_between left right row_index shift l r)
 
 -- The same by the word in the first table, or else by what is beyond it.
-unfoldable pub row_from : List ℕ → List ℕ → List ℕ → ℕ → ℕ → ℕ → Found
+unfoldable pub row_from : List ℕ → List ℕ → List ℕ → ℕ → ℕ → ℕ → Option ℕ
 row_from left right row_index shift l r = told_or (told left right (pair_word row_index l r) l r) (row_beyond left right row_index shift l r)

@@ -1,24 +1,21 @@
 -- Starting ids as a search finds them, laid into a buffer that may be too short for them.
-use Rattle.std.specs.Prelude.{ℕ, min, Bool, cond, ◌&&◌, List, [], ◌∷◌, ltb, eqb, length}
-use Rattle.std.proofs.Math.Option.{Option, none, some}
+use Rattle.std.specs.Prelude.{ℕ, min, Bool, cond, ◌&&◌, List, [], ◌∷◌, ltb, eqb, length, Option}
 use Rattle.utf8.specs.Lists.{join_map}
 use Rattle.utf8.specs.Lists as lists
 use Rattle.model.specs.Model.{strings, no_id}
 use Rattle.model.specs.Mark.{mark}
 use Rattle.index.specs.inner.Find.{byte_word, id_from}
 use Rattle.merge.specs.Start.{starting_ids_by, is_dropped_by, unit_chars}
-use Rattle.merge.specs.declared.Own.{Own}
-use Rattle.merge.specs.declared.Own.TheVariants.{Id, Missing}
+use Rattle.index.specs.declared.PieceIndex.{PieceIndex}
 use Rattle.merge.specs.declared.Symbols.{Symbols}
-
--- The id that a search for a character gave.
-abbrev pub id_of : Own → Option ℕ
-id_of (Id id) = some id
-id_of Missing = none
 
 -- The id at which a search for a character's piece ends, on any tables.
 unfoldable pub own_found : List ℕ → List ℕ → List ℕ → List ℕ → ℕ → List ℕ → Option ℕ
 own_found piece_bytes piece_offsets lookup first_bytes mark_id char = id_from (strings piece_bytes piece_offsets) lookup first_bytes mark_id char
+
+-- The same by the tables of an index.
+abbrev pub own_by : PieceIndex → List ℕ → Option ℕ
+own_by p = own_found p.pieces.bytes.now p.pieces.offsets.now p.lookup.now p.words.now p.mark_id
 
 -- The id of a byte that is a character by itself, as a number; a raw space has the mark's. None for any other byte.
 unfoldable pub byte_own : List ℕ → ℕ → Bool → ℕ → ℕ

@@ -6,20 +6,16 @@ use Prim.Native.Nat.{ℕ, ◌<◌}
 use native.Mathlib.Omega.{arith}
 use Rattle.model.specs.declared.Answer.{Answer}
 use Rattle.model.specs.Answers.{refused}
-use Rattle.model.specs.Model.{Model, model_of, token_list, contents, pieces_of, steps_of}
-use Rattle.model.specs.Check.{wrong_sizes, wrong_list_sizes, text_too_long, offsets_astray, bad_token, bad_step, model_tests, check_outcome}
-use Rattle.model.specs.inner.Tests.{span_fails}
+use Rattle.model.specs.Model.{Model, columns, contents, pieces_of, steps_of}
+use Rattle.model.specs.Check.{wrong_sizes, wrong_list_sizes, text_too_long, offsets_astray, bad_step, model_tests, check_outcome}
 use Rattle.model.proofs.Accepted.{sizes_fine, DecidedBy, Undecided, nothing_decided, others_decide, first_decides, refuses, accepts}
 use Rattle.model.proofs.check.Goals as goal
-use Rattle.model.proofs.check.Goals.{Else-bad_fallback, Else-bad_lookup, Else-bad_piece, Else-bad_row, Else-bad_token, Else-bad_token-2, Else-offsets_astray, Else-wrong_sizes, Start}
+use Rattle.model.proofs.check.Goals.{then-bad_token-via-then-bad_token, then-bad_token-via-else-bad_token+then-bad_token-2, Else-bad_fallback, Else-bad_lookup, Else-bad_piece, Else-bad_row, Else-bad_token-2, Else-offsets_astray, Else-wrong_sizes, Start}
 
 -- the lent columns as a model
 abbrev lent : Start → Model
 lent s =
-    model_of s.args.piece_bytes.now s.args.piece_offsets.now s.args.lookup.now s.args.fallback.now s.args.left.now s.args.right.now s.args.res.now s.args.rank.now
-    (token_list s.args.first_bytes.now s.args.first_offsets.now s.args.first_ids.now s.args.first_lstrip.now s.args.first_rstrip.now)
-    (token_list s.args.second_bytes.now s.args.second_offsets.now s.args.second_ids.now s.args.second_lstrip.now s.args.second_rstrip.now)
-    s.args.step_bytes.now s.args.steps s.args.step_count s.args.metaspace
+    columns s.args.model.now
 
 abbrev after_1 : Else-wrong_sizes → Model
 after_1 e = lent (goal.at.Else-wrong_sizes e).Start
@@ -39,20 +35,13 @@ after_5 e = after_4 (goal.at.Else-bad_fallback e).Else-bad_lookup
 abbrev after_6 : Else-bad_row → Model
 after_6 e = after_5 (goal.at.Else-bad_row e).Else-bad_fallback
 
-abbrev after_7 : Else-bad_token → Model
-after_7 e = after_6 (goal.at.Else-bad_token e).Else-bad_row
+abbrev after_7 : Else-bad_token-2 → Model
+after_7 e = after_6 (goal.at.Else-bad_token-2 e).Else-bad_row
 
-abbrev after_8 : Else-bad_token-2 → Model
-after_8 e = after_7 (goal.at.Else-bad_token-2 e).Else-bad_token
-
--- what the tests of sizes and of the first token list said
+-- what the test of sizes said
 fine_sizes : (e : Else-wrong_sizes) → wrong_sizes (after_1 e) ≡ false
 unfolding wrong_sizes wrong_list_sizes steps_of
 fine_sizes e = sym e.wrong_sizes.ensures ∙ e.if-wrong_sizes.false
-
-fine-first : (e : Else-bad_token) → bad_token (contents (after_7 e).first) ≡ false
-unfolding contents
-fine-first e = sym e.bad_token.ensures ∙ e.if-bad_token.false
 
 -- which tests still decide behind each one that did not apply
 left_1 : (e : Else-wrong_sizes) → Undecided 1 (after_1 e)
@@ -79,11 +68,11 @@ left_6 : (e : Else-bad_row) → Undecided 6 (after_6 e)
 unfolding model_tests pieces_of
 left_6 e = others_decide (left_5 (goal.at.Else-bad_row e).Else-bad_fallback) (sym e.bad_row.ensures ∙ e.if-bad_row.false)
 
-left_7 : (e : Else-bad_token-2) → Undecided 7 (after_8 e)
+left_7 : (e : Else-bad_token-2) → Undecided 7 (after_7 e)
 unfolding model_tests contents
 left_7 e =
     others_decide (left_6 (goal.at.Else-bad_token-2 e).Else-bad_row)
-    (ap₂ ◌||◌ (fine-first (goal.at.Else-bad_token-2 e).Else-bad_token) (sym e.bad_token-2.ensures ∙ e.if-bad_token-2.false))
+    (ap₂ ◌||◌ (sym e.bad_token.ensures ∙ e.if-bad_token.false) (sym e.bad_token-else-bad_token.ensures ∙ e.if-bad_token-2.false))
 
 -- a refusal by the first of the tests that still decide
 refusal : (m : Model) (answer : Answer) {number : ℕ} {b : Bool} {tests : List (ℕ × Bool)} → 0 < number → answer ≡ refused number 0 → DecidedBy ((number, b) ∷ tests) m → b ≡ true → answer ≡ check_outcome m
@@ -92,7 +81,7 @@ refusal m answer h e decided t = e ∙ sym (refuses m _ h (first_decides decided
 pub returns-then-wrong_sizes : goal.returns-then-wrong_sizes
 unfolding model_tests wrong_sizes wrong_list_sizes text_too_long steps_of
 returns-then-wrong_sizes c =
-    refusal (lent (goal.at.returns-then-wrong_sizes c).Start) _ (omega arith) c.refused.ensures (nothing_decided (lent (goal.at.returns-then-wrong_sizes c).Start))
+    refusal (lent (goal.at.returns-then-wrong_sizes c).Start) _ (omega arith) refl (nothing_decided (lent (goal.at.returns-then-wrong_sizes c).Start))
     (rw (sym c.wrong_sizes.ensures ∙ c.if-wrong_sizes.true))
 
 pub offsets_astray-requires : goal.offsets_astray-requires
@@ -103,57 +92,54 @@ offsets_astray-requires c =
 pub returns-then-offsets_astray : goal.returns-then-offsets_astray
 unfolding model_tests offsets_astray steps_of
 returns-then-offsets_astray c =
-    refusal (after_1 (goal.at.returns-then-offsets_astray c).Else-wrong_sizes) _ (omega arith) c.refused-then-offsets_astray.ensures (left_1 (goal.at.returns-then-offsets_astray c).Else-wrong_sizes)
+    refusal (after_1 (goal.at.returns-then-offsets_astray c).Else-wrong_sizes) _ (omega arith) refl (left_1 (goal.at.returns-then-offsets_astray c).Else-wrong_sizes)
     (sym c.offsets_astray.ensures ∙ c.if-offsets_astray.true)
 
 pub returns-then-bad_piece : goal.returns-then-bad_piece
 unfolding model_tests pieces_of
 returns-then-bad_piece c =
-    refusal (after_2 (goal.at.returns-then-bad_piece c).Else-offsets_astray) _ (omega arith) c.refused-then-bad_piece.ensures (left_2 (goal.at.returns-then-bad_piece c).Else-offsets_astray)
+    refusal (after_2 (goal.at.returns-then-bad_piece c).Else-offsets_astray) _ (omega arith) refl (left_2 (goal.at.returns-then-bad_piece c).Else-offsets_astray)
     (sym c.bad_piece.ensures ∙ c.if-bad_piece.true)
 
 pub returns-then-bad_lookup : goal.returns-then-bad_lookup
 unfolding model_tests pieces_of
 returns-then-bad_lookup c =
-    refusal (after_3 (goal.at.returns-then-bad_lookup c).Else-bad_piece) _ (omega arith) c.refused-then-bad_lookup.ensures (left_3 (goal.at.returns-then-bad_lookup c).Else-bad_piece)
+    refusal (after_3 (goal.at.returns-then-bad_lookup c).Else-bad_piece) _ (omega arith) refl (left_3 (goal.at.returns-then-bad_lookup c).Else-bad_piece)
     (sym c.bad_lookup.ensures ∙ c.if-bad_lookup.true)
 
 pub returns-then-bad_fallback : goal.returns-then-bad_fallback
 unfolding model_tests pieces_of
 returns-then-bad_fallback c =
-    refusal (after_4 (goal.at.returns-then-bad_fallback c).Else-bad_lookup) _ (omega arith) c.refused-then-bad_fallback.ensures (left_4 (goal.at.returns-then-bad_fallback c).Else-bad_lookup)
+    refusal (after_4 (goal.at.returns-then-bad_fallback c).Else-bad_lookup) _ (omega arith) refl (left_4 (goal.at.returns-then-bad_fallback c).Else-bad_lookup)
     (sym c.bad_fallback.ensures ∙ c.if-bad_fallback.true)
 
 pub returns-then-bad_row : goal.returns-then-bad_row
 unfolding model_tests pieces_of
 returns-then-bad_row c =
-    refusal (after_5 (goal.at.returns-then-bad_row c).Else-bad_fallback) _ (omega arith) c.refused-then-bad_row.ensures (left_5 (goal.at.returns-then-bad_row c).Else-bad_fallback)
+    refusal (after_5 (goal.at.returns-then-bad_row c).Else-bad_fallback) _ (omega arith) refl (left_5 (goal.at.returns-then-bad_row c).Else-bad_fallback)
     (sym c.bad_row.ensures ∙ c.if-bad_row.true)
 
 pub returns-then-bad_token : goal.returns-then-bad_token
 unfolding model_tests contents
 returns-then-bad_token c =
-    refusal (after_6 (goal.at.returns-then-bad_token c).Else-bad_row) _ (omega arith) c.refused-then-bad_token.ensures (left_6 (goal.at.returns-then-bad_token c).Else-bad_row)
-    (ap₂ ◌||◌ (sym c.bad_token.ensures ∙ c.if-bad_token.true) refl)
-
-pub returns-then-bad_token-2 : goal.returns-then-bad_token-2
-unfolding model_tests contents
-returns-then-bad_token-2 c =
-    refusal (after_7 (goal.at.returns-then-bad_token-2 c).Else-bad_token) _ (omega arith) c.refused-then-bad_token-2.ensures (left_6 (goal.at.returns-then-bad_token-2 c).Else-bad_row)
-    (ap₂ ◌||◌ (fine-first (goal.at.returns-then-bad_token-2 c).Else-bad_token) (sym c.bad_token-2.ensures ∙ c.if-bad_token-2.true))
+    refusal (after_6 (goal.at.returns-then-bad_token c).Else-bad_row) _ (omega arith) refl (left_6 (goal.at.returns-then-bad_token c).Else-bad_row)
+    (elim c.then-bad_token.branch [
+      | then-bad_token-via-then-bad_token w ↦ ap₂ ◌||◌ (sym c.bad_token.ensures ∙ w.if-bad_token.true) refl
+      | then-bad_token-via-else-bad_token+then-bad_token-2 w ↦ ap₂ ◌||◌ (sym c.bad_token.ensures ∙ w.if-bad_token.false) (sym w.bad_token-else-bad_token.ensures ∙ w.if-bad_token-2.true)
+    ])
 
 pub steps_fail-requires : goal.steps_fail-requires
 steps_fail-requires c = (sizes_fine (after_1 (goal.at.steps_fail-requires c).Else-wrong_sizes) (fine_sizes (goal.at.steps_fail-requires c).Else-wrong_sizes)).steps
 
 pub returns-then-steps_fail : goal.returns-then-steps_fail
-unfolding model_tests bad_step span_fails steps_of
+unfolding model_tests bad_step steps_of
 returns-then-steps_fail c =
-    refusal (after_8 (goal.at.returns-then-steps_fail c).Else-bad_token-2) _ (omega arith) c.refused-then-steps_fail.ensures (left_7 (goal.at.returns-then-steps_fail c).Else-bad_token-2)
+    refusal (after_7 (goal.at.returns-then-steps_fail c).Else-bad_token-2) _ (omega arith) refl (left_7 (goal.at.returns-then-steps_fail c).Else-bad_token-2)
     (sym c.steps_fail.ensures ∙ c.if-steps_fail.true)
 
 pub returns : goal.returns
-unfolding model_tests bad_step span_fails steps_of
+unfolding model_tests bad_step steps_of
 returns c =
     let b = (goal.at.returns c).Else-bad_token-2 in
-    let left_8 : Undecided 8 (after_8 b) = others_decide (left_7 b) (sym c.steps_fail.ensures ∙ c.if-steps_fail.false) in
-    c.done.ensures ∙ sym (accepts (after_8 b) left_8.number)
+    let left_8 : Undecided 8 (after_7 b) = others_decide (left_7 b) (sym c.steps_fail.ensures ∙ c.if-steps_fail.false) in
+    sym (accepts (after_7 b) left_8.number)

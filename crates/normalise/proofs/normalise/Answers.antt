@@ -1,36 +1,30 @@
--- `normalise::normalise` meets its contract: the text's size, the model check, and then the checked twin.
-use mathlib.Core.Path.{sym, ◌∙◌}
-use Rattle.model.specs.Model.{model_of, token_list}
-use Rattle.model.proofs.AnswerLaws.{number-checked}
+-- `normalise::normalise` meets its contract: by the first test that applies.
+use Rattle.std.proofs.Common.{sym, refl}
+use Rattle.model.specs.Model.{columns}
+use Rattle.std.proofs.lemmas.Result.{err_from_is_err_and}
+use Rattle.model.proofs.AnswerLaws.{number-checked, refusal_number}
 use Rattle.normalise.proofs.NormalLaws.{Lent, long_text, bad_model}
 use Rattle.normalise.proofs.normalise.Goals as goal
 use Rattle.normalise.proofs.normalise.Goals.{Start}
 
 -- what the call is lent
 abbrev lent : Start → Lent
-lent s =
-    record {
-      model =
-          model_of s.args.piece_bytes.now s.args.piece_offsets.now s.args.lookup.now s.args.fallback.now s.args.left.now s.args.right.now s.args.res.now s.args.rank.now
-          (token_list s.args.first_bytes.now s.args.first_offsets.now s.args.first_ids.now s.args.first_lstrip.now s.args.first_rstrip.now)
-          (token_list s.args.second_bytes.now s.args.second_offsets.now s.args.second_ids.now s.args.second_lstrip.now s.args.second_rstrip.now)
-          s.args.step_bytes.now s.args.steps s.args.step_count s.args.metaspace;
-      text = s.args.text.now;
-      first = s.args.first;
-      out = s.args.out.now;
-      scratch_a = s.args.scratch_a.now;
-      scratch_b = s.args.scratch_b.now;
-    }
+lent s = record {
+  model = columns s.args.model.now;
+  text = s.args.text.now;
+  first = s.args.first;
+  out = s.args.out.now;
+  scratch_a = s.args.scratch_a.now;
+  scratch_b = s.args.scratch_b.now;
+}
 
 pub returns-then-text-gt-TEXT_LIMIT : goal.returns-then-text-gt-TEXT_LIMIT
-returns-then-text-gt-TEXT_LIMIT c = long_text (lent (goal.at.returns-then-text-gt-TEXT_LIMIT c).Start) _ c.refused.ensures c.if-text-gt-TEXT_LIMIT.true
+returns-then-text-gt-TEXT_LIMIT c = long_text (lent (goal.at.returns-then-text-gt-TEXT_LIMIT c).Start) _ refl c.if-text-gt-TEXT_LIMIT.true
 
-pub returns-then-checked-ne0 : goal.returns-then-checked-ne0
-returns-then-checked-ne0 c = bad_model (lent (goal.at.returns-then-checked-ne0 c).Start) _ c.check-checked.ensures c.if-text-gt-TEXT_LIMIT.false c.if-checked-ne0.true
+pub returns-in_err-check : goal.returns-in_err-check
+returns-in_err-check c =
+    let p = err_from_is_err_and c.from_residual.result c.from_residual.ensures.1 in
+    rw (p.1, p.2) (bad_model (lent (goal.at.returns-in_err-check c).Start) _ c.in_err-check.ensures c.if-text-gt-TEXT_LIMIT.false (refusal_number c.in_err-check.field-0.0))
 
-pub normalise_checked-requires : goal.normalise_checked-requires
-normalise_checked-requires c =
-    sym (number-checked (lent (goal.at.normalise_checked-requires c).Start).model _ c.check-checked.ensures) ∙ c.if-checked-ne0.false
-
-pub returns : goal.returns
-returns c = c.normalise_checked.ensures
+pub normalise_short-requires-clause-accepted : goal.normalise_short-requires-clause-accepted
+normalise_short-requires-clause-accepted c = sym (number-checked (columns c.args.model.now) _ c.in_ok-check.ensures)

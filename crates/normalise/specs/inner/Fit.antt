@@ -1,21 +1,19 @@
 -- What a step leaves in a buffer that may be too short for its output.
-use Rattle.std.specs.Prelude.{ℕ, min, cond, List, ◌++◌, leb, drop}
+use Rattle.std.specs.Prelude.{ℕ, min, cond, Option, Some, None, List, ◌++◌, leb, drop}
 use Rattle.std.proofs.Math.ListN as lists
-use Rattle.normalise.specs.declared.Length.{Length}
-use Rattle.normalise.specs.declared.Length.TheVariants.{Fits, TooLong}
 
 -- The length of an output for which there is room.
-unfoldable pub fitted : ℕ → ℕ → Length
-fitted n room = cond (leb n room) (Fits n) TooLong
+unfoldable pub fitted : ℕ → ℕ → Option ℕ
+fitted n room = cond (leb n room) (Some n) None
 
 -- The answer, and the buffer after it.
 pub record Put : Type 0 where
-  pub length : Length
+  pub length : Option ℕ
   pub out : List ℕ
 
 -- An output put at the front of a buffer where it is no longer than the room and the buffer; else the buffer is unchanged.
 unfoldable pub put : List ℕ → ℕ → List ℕ → Put
 put result room out =
     cond (leb (lists.length result) (min room (lists.length out)))
-    (record { length = Fits (lists.length result); out = result ++ drop (lists.length result) out })
-    (record { length = TooLong; out = out })
+    (record { length = Some (lists.length result); out = result ++ drop (lists.length result) out })
+    (record { length = None; out = out })

@@ -1,9 +1,7 @@
 -- A search that tests a place only where its byte begins some content, on any tables.
-use Rattle.std.specs.Prelude.{ℕ, suc, Bool, not, cond, List, [], ◌∷◌, eqb, get_or, set}
-use Rattle.std.proofs.Math.Option.{Option, none, some}
-use Rattle.sections.specs.Matches.{Match, longest_at}
-use Rattle.sections.specs.declared.Sought.{Sought}
-use Rattle.sections.specs.declared.Sought.TheVariants.{Found, Missing}
+use Rattle.std.specs.Prelude.{ℕ, suc, Bool, not, cond, List, [], ◌∷◌, eqb, get_or, set, Option, None, Some}
+use Rattle.sections.specs.declared.Match.{Match}
+use Rattle.sections.specs.Matches.{longest_at}
 
 -- The row of beginnings, content by content: each sets the number of its first byte.
 abbrev pub note_first : List ℕ → List ℕ → List ℕ
@@ -19,8 +17,8 @@ unfoldable pub may_begin : List ℕ → ℕ → Bool
 may_begin begins b = not (eqb (get_or begins b 1) 0)
 
 abbrev pub row_in : Option (ℕ × List ℕ) → Option ℕ
-row_in none = none
-row_in (some c) = some c.0
+row_in None = None
+row_in (Some c) = Some c.0
 
 -- The row of the longest content at the head of a text.
 unfoldable pub row_at : List (List ℕ) → List ℕ → Option ℕ
@@ -28,21 +26,16 @@ row_at contents text = row_in (longest_at contents text)
 
 -- The same where the first byte is not ruled out.
 abbrev pub row_by : List ℕ → List (List ℕ) → List ℕ → Option ℕ
-row_by begins contents [] = none
-row_by begins contents (b ∷ bytes) = cond (may_begin begins b) (row_at contents (b ∷ bytes)) none
+row_by begins contents [] = None
+row_by begins contents (b ∷ bytes) = cond (may_begin begins b) (row_at contents (b ∷ bytes)) None
 
 -- the match at the place, or else the other
 abbrev pub placed : ℕ → Option ℕ → Option Match → Option Match
-placed place none other = other
-placed place (some row) other = some (record { place = place; row = row })
+placed place None other = other
+placed place (Some row) other = Some (record { place = place; row = row })
 
 -- The leftmost match that begins with a byte that is not ruled out; place is that of the text's first byte.
 abbrev pub match_by : List ℕ → List (List ℕ) → ℕ → List ℕ → Option Match
-match_by begins contents place [] = none
+match_by begins contents place [] = None
 match_by begins contents place (b ∷ bytes) =
     let later = match_by begins contents (suc place) bytes in placed place (row_by begins contents (b ∷ bytes)) later
-
--- What the answer of a search says.
-abbrev pub sought_match : Sought → Option Match
-sought_match Missing = none
-sought_match (Found place row) = some (record { place = place; row = row })

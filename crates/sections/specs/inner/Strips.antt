@@ -2,7 +2,8 @@
 use Rattle.std.specs.Prelude.{ℕ, ◌+◌, min, Bool, cond, List, length, drop}
 use Rattle.std.proofs.Math.Seq.{slice}
 use Rattle.utf8.specs.WhiteSpace.{trim_end}
-use Rattle.sections.specs.Matches.{Match, end}
+use Rattle.sections.specs.declared.Match.{Match}
+use Rattle.sections.specs.Matches.{end}
 use Rattle.sections.specs.Sections.{white_length}
 
 -- Where the section that begins at start ends before a token at the place.

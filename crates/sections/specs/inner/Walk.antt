@@ -1,29 +1,35 @@
 -- A walk through the tokens of a text and what stands between them, item by item, on any tables.
-use Rattle.std.specs.Prelude.{ℕ, zero, suc, ◌-◌, Bool, true, false, cond, ◌&&◌, List, ltb, eqb, length, get_or, drop}
-use Rattle.std.proofs.Math.Option.{Option, none, some}
+use Rattle.std.specs.Prelude.{ℕ, zero, suc, ◌-◌, Bool, true, false, cond, ◌&&◌, List, ltb, eqb, length, get_or, drop, Option, None, Some}
 use Rattle.model.specs.Model.{TokenList, contents}
-use Rattle.sections.specs.Matches.{Match, end}
+use Rattle.sections.specs.declared.Match.{Match}
+use Rattle.sections.specs.Matches.{end}
 use Rattle.sections.specs.Sections.{is_swallowed}
 use Rattle.sections.specs.inner.Seek.{match_by}
 use Rattle.sections.specs.inner.Strips.{stop_at, start_at}
 use Rattle.sections.specs.declared.Taken.{Taken}
-use Rattle.sections.specs.declared.Taken.TheVariants.{Here, Nowhere}
+use Rattle.sections.specs.declared.Search.{Search}
+use Rattle.sections.specs.declared.Search.TheVariants.{Onward, Afresh}
 use Rattle.sections.specs.declared.Cursor.{Cursor}
 use Rattle.sections.specs.declared.Cursor.TheVariants.{Whole, Seek, Held, Done}
 use Rattle.sections.specs.declared.Next.{Next}
 use Rattle.sections.specs.declared.Next.TheVariants.{Plain, Added, Finished}
 
+-- Whether a search goes on where the next section begins.
+abbrev pub is_afresh : Search → Bool
+is_afresh Onward = false
+is_afresh Afresh = true
+
 -- the match where it is taken, and else what comes behind it
-abbrev pub taken_or : List (List ℕ) → ℕ → ℕ → (ℕ → Taken) → Option Match → Taken
-taken_or contents start turns go_on none = Nowhere
-taken_or contents start turns go_on (some match) =
+abbrev pub taken_or : List (List ℕ) → ℕ → ℕ → (ℕ → Option Taken) → Option Match → Option Taken
+taken_or contents start turns go_on None = None
+taken_or contents start turns go_on (Some match) =
     let e = end contents match in
     let later = go_on e in
-    cond (is_swallowed start match) later (Here match.place match.row e turns)
+    cond (is_swallowed start match) later (Some (record { found = match; end = e; turns = turns }))
 
 -- The first of as many matches as turns say, from a place on, that is not swallowed, and the turns that are left then.
-abbrev pub taken_for : ℕ → List ℕ → List (List ℕ) → List ℕ → ℕ → ℕ → Taken
-taken_for zero begins contents text start from = Nowhere
+abbrev pub taken_for : ℕ → List ℕ → List (List ℕ) → List ℕ → ℕ → ℕ → Option Taken
+taken_for zero begins contents text start from = None
 taken_for (suc turns) begins contents text start from =
     taken_or contents start turns (taken_for turns begins contents text start) (match_by begins contents from (drop from text))
 
@@ -34,11 +40,13 @@ token_item ids rstrip afresh text place row turns =
     Added (get_or ids row 0) (Seek start (cond afresh start place) turns false)
 
 -- What stands from start on, up to the token that is taken or to the end of the text; and where that is nothing, the token.
-abbrev pub item_at : List ℕ → List Bool → List Bool → Bool → List ℕ → ℕ → Bool → Taken → Next
-item_at ids lstrip rstrip afresh text start opening Nowhere = cond (ltb start (length text)) (Plain start (length text) opening Done) Finished
-item_at ids lstrip rstrip afresh text start opening (Here place row e turns) =
-    let stop = stop_at (get_or lstrip row false) text start place in
-    cond (ltb start stop) (Plain start stop opening (Held e row turns)) (token_item ids rstrip afresh text e row turns)
+abbrev pub item_at : List ℕ → List Bool → List Bool → Bool → List ℕ → ℕ → Bool → Option Taken → Next
+item_at ids lstrip rstrip afresh text start opening None = cond (ltb start (length text)) (Plain start (length text) opening Done) Finished
+item_at ids lstrip rstrip afresh text start opening (Some taken) =
+    let row = taken.found.row in
+    let stop = stop_at (get_or lstrip row false) text start taken.found.place in
+    let held = Held taken.end row taken.turns in
+    cond (ltb start stop) (Plain start stop opening held) (token_item ids rstrip afresh text taken.end row taken.turns)
 
 -- The item that comes next.
 unfoldable pub next_item : TokenList → List ℕ → Bool → List ℕ → Cursor → Next

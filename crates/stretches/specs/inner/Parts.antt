@@ -1,6 +1,5 @@
 -- Parts, tokens and stretches, one after the other: what is counted of them, and how they are written.
-use Rattle.std.specs.Prelude.{ℕ, min, List, [], ◌∷◌, map, length}
-use Rattle.std.proofs.Math.Option.{Option}
+use Rattle.std.specs.Prelude.{ℕ, min, List, [], ◌∷◌, map, length, Option}
 use Rattle.utf8.specs.Lists.{join_map, sum}
 use Rattle.utf8.specs.Lists as lists
 use Rattle.merge.specs.Start.{starting_ids_by, is_dropped_by}

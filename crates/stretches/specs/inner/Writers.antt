@@ -1,6 +1,5 @@
 -- Ids written into a buffer one unit after the other, each behind what the ones before left, on any tables and into a buffer of any length.
-use Rattle.std.specs.Prelude.{ℕ, ◌+◌, min, Bool, List, [], ◌∷◌, ◌++◌, map, length, take, drop}
-use Rattle.std.proofs.Math.Option.{Option}
+use Rattle.std.specs.Prelude.{ℕ, ◌+◌, min, Bool, List, [], ◌∷◌, ◌++◌, map, length, take, drop, Option}
 use Rattle.utf8.specs.Lists.{join_map}
 use Rattle.model.specs.Model.{Row}
 use Rattle.units.specs.inner.Next.{units_from}

@@ -1,6 +1,5 @@
 -- Where the next unit starts.
-use Rattle.std.specs.Prelude.{ℕ, suc, ◌-◌, Bool, List, [], ◌∷◌, ◌++◌, length}
-use Rattle.std.proofs.Math.Option.{Option, none, some}
+use Rattle.std.specs.Prelude.{ℕ, suc, ◌-◌, Bool, List, [], ◌∷◌, ◌++◌, length, Option, None, Some}
 use Rattle.utf8.specs.Lists.{find, filter, between, count_from}
 
 module _ (cuts : ℕ → Bool) (section : List ℕ) where
@@ -9,8 +8,8 @@ module _ (cuts : ℕ → Bool) (section : List ℕ) where
   places_above from = count_from (suc from) (length section - suc from)
 
   unfoldable pub or_end : Option ℕ → ℕ
-  or_end none = length section
-  or_end (some p) = p
+  or_end None = length section
+  or_end (Some p) = p
 
   -- The first place above this one where a unit starts, or the section's end.
   unfoldable pub next_unit : ℕ → ℕ

@@ -1,6 +1,7 @@
 -- What derived numbers tell: which bytes stand side by side, and the crossings that are noted.
 use Rattle.std.specs.Prelude.{ℕ, ◌+◌, ◌*◌, ◌/◌, ◌%◌, ◌^◌, Bool, List, [], ◌∷◌, map, eqb, get_or, take}
-use Rattle.model.specs.Model.{piece}
+use Rattle.units.specs.declared.Cutter.{Cutter}
+use Rattle.model.specs.Model.{strings_of, piece}
 use Rattle.units.specs.Kinds.{Crossing, crossing_at}
 use Rattle.units.specs.Derived.{Place}
 
@@ -21,3 +22,7 @@ places_of (id ∷ place ∷ words) = (id, place) ∷ places_of words
 -- The crossings that the first words name, as many as count says.
 unfoldable pub named_crossings : List (List ℕ) → List ℕ → ℕ → List Crossing
 named_crossings pieces words count = map (crossing_of pieces) (take count (places_of words))
+
+-- Those that a cutter has.
+abbrev pub crossings_in : Cutter → List Crossing
+crossings_in c = named_crossings (strings_of c.pieces) c.noted.now c.count

@@ -8,7 +8,7 @@ use Rattle.decode.proofs.pass.feed_piece.Given as goal
 
 abbrev pub invariant-loop-i : goal.invariant-loop-i
 invariant-loop-i l =
-    (l.i ≤ length l.bytes) × (length l.out ≡ length l.initial.out) × (Feeding (fed l.initial.progress.decoder l.bytes l.at l.initial.out) l.progress.decoder (drop l.i l.bytes) l.progress.at l.out)
+    (l.i ≤ length l.bytes) × (length l.out ≡ length l.initial.out) × (Feeding (fed l.initial.decoder l.bytes l.start l.initial.out) l.decoder (drop l.i l.bytes) l.at l.out)
 
 abbrev pub decreases-loop-i : goal.decreases-loop-i
 decreases-loop-i l = length l.bytes - l.i

@@ -4,6 +4,7 @@ use mathlib.Core.Bool.{not}
 use mathlib.Core.List.{List, [], ◌∷◌}
 use borrow.Author.Tests.{eq-eqb, ne_eqb}
 use Prim.Native.Nat.{ℕ}
+use Rattle.decode.specs.Decode.{replacement}
 use Rattle.decode.specs.inner.Feeding.{put, shown_first}
 use Rattle.decode.proofs.TextLaws.{shown_stray, shown_ascii}
 use Rattle.decode.proofs.StateLaws.{put-nothing}
@@ -16,9 +17,10 @@ shows : (s : Start) (xs : List ℕ) → shown_first (not s.args.begun) (s.args.b
 shows s xs e = ap (λ (l : List ℕ). put l s.args.at s.args.out.now) (sym e)
 
 pub returns-then-b-gt127 : goal.returns-then-b-gt127
+unfolding replacement
 returns-then-b-gt127 c =
     let s = (goal.at.returns-then-b-gt127 c).Start in
-    c.put_replacement.ensures ∙ shows s _ (shown_stray (not s.args.begun) s.args.b c.if-b-gt127.true s.requires.closed_after)
+    c.put_bytes.ensures ∙ shows s _ (shown_stray (not s.args.begun) s.args.b c.if-b-gt127.true s.requires.closed_after)
 
 pub returns-then-begun : goal.returns-then-begun
 returns-then-begun c =

@@ -10,18 +10,19 @@ use Rattle.decode.proofs.StateLaws.{put-nothing, put_then, put-at, strays_next, 
 use borrow.Author.Rules.{rules}
 use Rattle.decode.proofs.put.put_strays.Goals as goal
 
-pub loop-i-init : goal.loop-i-init
-loop-i-init c = (search rules, search rules, put-nothing _ _)
+pub loop-init : goal.loop-init
+loop-init c = (search rules, put-nothing _ _)
 
-pub put_replacement-next-requires : goal.put_replacement-next-requires
-put_replacement-next-requires c =
-    omega (arith, put-at (join (replicate c.loop-i.i replacement)) c.args.at c.args.out.now c.loop-i.invariant.2, strays_long c.loop-i.i, c.requires)
+pub put_bytes-next-requires : goal.put_bytes-next-requires
+put_bytes-next-requires c =
+    omega (arith, put-at (join (replicate c.loop.counter replacement)) c.args.at c.args.out.now c.loop.invariant.1, strays_long c.loop.counter, c.requires)
 
-pub loop-i-preserved : goal.loop-i-preserved
-loop-i-preserved c =
-    (search rules, search rules, put_then (join (replicate c.loop-i.i replacement)) replacement _ _ c.loop-i.invariant.2 c.put_replacement-next.ensures ∙ ap (λ (l : List ℕ). put l c.args.at c.args.out.now) (strays_next c.loop-i.i))
+pub loop-preserved : goal.loop-preserved
+unfolding replacement
+loop-preserved c =
+    (search rules, put_then (join (replicate c.loop.counter replacement)) replacement _ _ c.loop.invariant.1 c.put_bytes-next.ensures ∙ ap (λ (l : List ℕ). put l c.args.at c.args.out.now) (strays_next c.loop.counter))
 
 pub returns : goal.returns
 returns c =
-    let all : c.loop-i.i ≡ c.args.count = omega arith in
-    c.loop-i.invariant.2 ∙ ap (λ (n : ℕ). put (join (replicate n replacement)) c.args.at c.args.out.now) all
+    let all : c.loop.counter ≡ c.args.count = omega arith in
+    c.loop.invariant.1 ∙ ap (λ (n : ℕ). put (join (replicate n replacement)) c.args.at c.args.out.now) all

@@ -7,6 +7,6 @@ pub returns-then-room-at : goal.returns-then-room-at
 unfolding all_or_none
 returns-then-room-at c = rw (le-leb c.args.room c.args.at c.if-room-at.true)
 
-pub returns : goal.returns
+pub returns-else-room-at : goal.returns-else-room-at
 unfolding all_or_none
-returns c = rw (lt-leb c.args.room c.args.at c.if-room-at.false)
+returns-else-room-at c = rw (lt-leb c.args.room c.args.at c.if-room-at.false)

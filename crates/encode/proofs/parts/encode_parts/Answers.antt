@@ -1,56 +1,53 @@
 use Prim.Native.Nat.{◌-◌, ◌*◌, ◌<◌}
 use native.Mathlib.Omega.{arith}
-use mathlib.Core.Bool.{true}
-use mathlib.Core.Path.{◌≡◌, refl, ap, ◌∙◌}
-use mathlib.Core.List.{List, ◌∷◌, map}
+use mathlib.Core.Path.{◌≡◌, refl, ap}
+use mathlib.Core.List.{List, ◌∷◌}
 use lib.ListN.{length, take, drop}
 use lib.Seq.{slice}
-use Rattle.model.specs.Model.{TokenList, token_list}
+use Rattle.std.specs.Prelude.{Option}
+use Rattle.model.specs.declared.Metaspace.{Metaspace}
 use Rattle.merge.specs.inner.Turns.{Merged}
 use Rattle.sections.specs.Sections.{Item, plain, taken_apart}
 use Rattle.sections.specs.SecondList.{NormalPart, normal_parts}
 use Rattle.sections.proofs.PartLaws.{parts_left, parts-start}
 use Rattle.stretches.specs.Stretches.{Stretch}
-use Rattle.stretches.specs.inner.Tables.{Tables}
-use Rattle.stretches.specs.inner.Parts.{part_writer, parts_writer}
+use Rattle.stretches.specs.inner.Tables.{Tables, tables_in}
+use Rattle.stretches.specs.inner.Parts.{parts_writer}
 use Rattle.stretches.proofs.WriterLaws.{going_start}
 use Rattle.encode.specs.inner.Passes.{part_stretch}
+use Rattle.encode.proofs.CheckedLaws.{second_list}
 use Rattle.encode.proofs.PassLaws.{parts_on, parts-fit, token_on, token-fit, parts-ended}
 use Rattle.encode.proofs.ItemLaws.{short_head, short_rest}
 use Rattle.encode.proofs.WalkLaws.{plain_fewer, token_fewer}
 use Rattle.encode.proofs.PartLaws.{part-next, added_next, none-next, part-put}
 use Rattle.encode.proofs.parts.encode_parts.Goals as goal
 use Rattle.encode.proofs.parts.encode_parts.Goals.{After-encode_part-more, After-part, At-loop-id, Start}
-use Rattle.encode.proofs.parts.encode_parts.Invariants.{tables}
 
--- What is lent: the tables, the tokens, and the parts that it comes to.
+-- What is lent, and the parts that it comes to.
 abbrev tables_of : Start → Tables
-tables_of s = tables s.args.adjacency.now s.args.index.now s.args.piece_bytes.now s.args.piece_offsets.now s.args.lookup.now s.args.fallback.now s.args.left.now s.args.right.now s.args.res.now s.args.rank.now
+tables_of s = tables_in s.args.model.now.prepared.now
 
-abbrev tokens_of : Start → TokenList
-tokens_of s = token_list s.args.bytes.now s.args.offsets.now s.args.ids.now s.args.lstrip.now s.args.rstrip.now
+abbrev metaspace_of : Start → Option Metaspace
+metaspace_of s = s.args.model.now.prepared.now.model.now.metaspace
 
 abbrev whole_of : Start → List (Item Stretch)
-whole_of s = taken_apart (part_stretch s.args.metaspace) (normal_parts (tokens_of s) s.args.opening s.args.text.now)
+whole_of s = taken_apart (part_stretch (metaspace_of s)) (normal_parts (second_list s.args.model.now) s.args.opening s.args.text.now)
 
 abbrev left_at : At-loop-id → List (Item Stretch)
-left_at a = let s = (goal.at.At-loop-id a).Start in taken_apart (part_stretch s.args.metaspace) (parts_left (tokens_of s) s.args.text.now a.loop-id.cursor)
+left_at a = let s = (goal.at.At-loop-id a).Start in taken_apart (part_stretch (metaspace_of s)) (parts_left (second_list s.args.model.now) s.args.text.now a.loop-id.cursor)
 
 -- The result is no longer than any slice of words.
 out_fits : (s : Start) → (length s.args.out.now < 18446744073709551616) × (length s.args.out.now * 4 < 9223372036854775808)
-out_fits s = s.well_formed.1.1.1.1.1.1.1.1.1.1.1.1.1.1.1.1.1.1.1.1.1.0
+out_fits s = s.well_formed.1.1.1.1.1.0
 
 pub loop-id-init : goal.loop-id-init
 loop-id-init c =
     let s = (goal.at.loop-id-init c).Start in
-    let all = parts-start (tokens_of s) s.args.opening s.args.text.now in (
-      rw c.parts_start-cursor.ensures (rw all (going_start (map (part_writer (tables_of s)) (whole_of s)) s.args.out.now)),
+    let all = parts-start (second_list s.args.model.now) s.args.opening s.args.text.now in (
+      rw c.parts_start-cursor.ensures (rw all (going_start _ s.args.out.now)),
       rw c.parts_start-cursor.ensures (rw all (record { short = s.requires.outputs_fit })),
       refl,
     )
-
-pub shape_of-scratch-in-Finished : goal.shape_of-scratch-in-Finished
-shape_of-scratch-in-Finished c = c.loop-id.invariant.2
 
 pub shape_of-out-in-Finished : goal.shape_of-out-in-Finished
 shape_of-out-in-Finished c = c.loop-id.invariant.0.long
@@ -59,7 +56,7 @@ pub returns-in-Finished : goal.returns-in-Finished
 returns-in-Finished c =
     let a = (goal.at.returns-in-Finished c).At-loop-id in
     let s = (goal.at.returns-in-Finished c).Start in
-    parts-ended (tables_of s) (whole_of s) (left_at a) a.loop-id.invariant.0 (ap (taken_apart (part_stretch s.args.metaspace)) (none-next (tokens_of s) s.args.text.now s.args.begins.now s.requires.begins_noted s.requires.tokens_fine a.loop-id.cursor c.next_item.ensures c.in-Finished.is))
+    parts-ended (tables_of s) (whole_of s) (left_at a) a.loop-id.invariant.0 (ap (taken_apart (part_stretch (metaspace_of s))) (none-next s.args.model.now s.args.text.now a.loop-id.cursor c.next_part.ensures c.in-Finished.is))
 
 pub offset_bounds-out-written : goal.offset_bounds-out-written
 offset_bounds-out-written c =
@@ -71,9 +68,6 @@ slice_bounds-put_id-count c = c.loop-id.invariant.0.within
 pub slice_bounds-put_id-start : goal.slice_bounds-put_id-start
 slice_bounds-put_id-start c = c.loop-id.invariant.0.within
 
-pub slice_bounds-put_id-end : goal.slice_bounds-put_id-end
-slice_bounds-put_id-end c = omega arith
-
 pub overflow_add-written : goal.overflow_add-written
 overflow_add-written c =
     let a = (goal.at.overflow_add-written c).At-loop-id in
@@ -81,16 +75,14 @@ overflow_add-written c =
     omega (arith, (out_fits s).0, token-fit (tables_of s) (whole_of s) (left_at a) a.loop-id.invariant.0 c.in-Added.id c.put_id-more.ensures)
 
 pub loop-id-smaller-in-Added : goal.loop-id-smaller-in-Added
-loop-id-smaller-in-Added c =
-    let s = (goal.at.loop-id-smaller-in-Added c).Start in
-    token_fewer (tokens_of s) s.args.begins.now true s.args.text.now c.loop-id.cursor c.next_item.ensures c.in-Added.is
+loop-id-smaller-in-Added c = token_fewer _ _ _ _ _ c.next_part.ensures c.in-Added.is
 
 pub loop-id-preserved-in-Added : goal.loop-id-preserved-in-Added
 loop-id-preserved-in-Added c =
     let a = (goal.at.loop-id-preserved-in-Added c).At-loop-id in
     let s = (goal.at.loop-id-preserved-in-Added c).Start in
-    let next = added_next (tokens_of s) s.args.text.now s.args.begins.now s.requires.begins_noted s.requires.tokens_fine a.loop-id.cursor c.next_item.ensures c.in-Added.is in (
-      token_on (tables_of s) (whole_of s) (left_at a) a.loop-id.invariant.0 c.in-Added.id _ (ap (taken_apart (part_stretch s.args.metaspace)) next) c.put_id-more.ensures,
+    let next = added_next s.args.model.now s.args.text.now a.loop-id.cursor c.next_part.ensures c.in-Added.is in (
+      token_on (tables_of s) (whole_of s) (left_at a) a.loop-id.invariant.0 c.in-Added.id _ (ap (taken_apart (part_stretch (metaspace_of s))) next) c.put_id-more.ensures,
       short_rest a.loop-id.invariant.1 _ _ next,
       a.loop-id.invariant.2,
     )
@@ -101,10 +93,8 @@ part_at p =
     record { bytes = slice p.in-Plain.start p.in-Plain.stop p.args.text.now; first = p.in-Plain.first }
 
 next_at : (p : After-part)
-    → parts_left (tokens_of (goal.at.After-part p).Start) p.args.text.now p.loop-id.cursor ≡ plain (part_at p) ∷ parts_left (tokens_of (goal.at.After-part p).Start) p.args.text.now p.in-Plain.next
-next_at p =
-    let s = (goal.at.After-part p).Start in
-    part-next (tokens_of s) s.args.text.now s.args.begins.now s.requires.begins_noted s.requires.tokens_fine p.loop-id.cursor p.next_item.ensures p.in-Plain.is
+    → parts_left (second_list p.args.model.now) p.args.text.now p.loop-id.cursor ≡ plain (part_at p) ∷ parts_left (second_list p.args.model.now) p.args.text.now p.in-Plain.next
+next_at p = part-next p.args.model.now p.args.text.now p.loop-id.cursor p.next_part.ensures p.in-Plain.is
 
 pub offset_bounds-out-written-in-Plain : goal.offset_bounds-out-written-in-Plain
 offset_bounds-out-written-in-Plain c =
@@ -116,9 +106,6 @@ slice_bounds-encode_part-count c = c.loop-id.invariant.0.within
 pub slice_bounds-encode_part-start : goal.slice_bounds-encode_part-start
 slice_bounds-encode_part-start c = c.loop-id.invariant.0.within
 
-pub slice_bounds-encode_part-end : goal.slice_bounds-encode_part-end
-slice_bounds-encode_part-end c = omega arith
-
 pub encode_part-more-requires : goal.encode_part-more-requires
 encode_part-more-requires c =
     omega (arith, c.requires.room_in_bounds, c.loop-id.invariant.2)
@@ -126,11 +113,11 @@ encode_part-more-requires c =
 -- What the call on a part wrote.
 put_at : (e : After-encode_part-more)
     → let p = (goal.at.After-encode_part-more e).After-part in
-    ◌≡◌ {A = Merged} (record { count = e.encode_part-more.result; ids = e.encode_part-more.new.out }) (parts_writer (tables_of (goal.at.After-encode_part-more e).Start) (part_stretch p.args.metaspace (part_at p)) (take (length p.loop-id.out - p.loop-id.written) (drop p.loop-id.written p.loop-id.out)))
+    ◌≡◌ {A = Merged} (record { count = e.encode_part-more.result; ids = e.encode_part-more.new.out }) (parts_writer (tables_of (goal.at.After-encode_part-more e).Start) (part_stretch (metaspace_of (goal.at.After-encode_part-more e).Start) (part_at p)) (take (length p.loop-id.out - p.loop-id.written) (drop p.loop-id.written p.loop-id.out)))
 put_at e =
     let p = (goal.at.After-encode_part-more e).After-part in
     let s = (goal.at.After-encode_part-more e).Start in
-    part-put (tables_of s) s.args.metaspace s.args.text.now p.in-Plain.start p.in-Plain.stop p.in-Plain.first s.args.room (take (length p.loop-id.out - p.loop-id.written) (drop p.loop-id.written p.loop-id.out)) p.part.ensures (short_head p.loop-id.invariant.1 (part_at p) _ (next_at p)) e.encode_part-more.ensures
+    part-put (tables_of s) (metaspace_of s) s.args.text.now p.in-Plain.start p.in-Plain.stop p.in-Plain.first s.args.room (take (length p.loop-id.out - p.loop-id.written) (drop p.loop-id.written p.loop-id.out)) p.part.ensures (short_head p.loop-id.invariant.1 (part_at p) _ (next_at p)) e.encode_part-more.ensures
 
 pub overflow_add-written-in-Plain : goal.overflow_add-written-in-Plain
 overflow_add-written-in-Plain c =
@@ -138,12 +125,10 @@ overflow_add-written-in-Plain c =
     let p = (goal.at.overflow_add-written-in-Plain c).After-part in
     let a = (goal.at.overflow_add-written-in-Plain c).At-loop-id in
     let s = (goal.at.overflow_add-written-in-Plain c).Start in
-    omega (arith, (out_fits s).0, parts-fit (tables_of s) (whole_of s) (left_at a) a.loop-id.invariant.0 (part_stretch s.args.metaspace (part_at p)) (put_at e))
+    omega (arith, (out_fits s).0, parts-fit (tables_of s) (whole_of s) (left_at a) a.loop-id.invariant.0 (part_stretch (metaspace_of s) (part_at p)) (put_at e))
 
 pub loop-id-smaller : goal.loop-id-smaller
-loop-id-smaller c =
-    let s = (goal.at.loop-id-smaller c).Start in
-    plain_fewer (tokens_of s) s.args.begins.now true s.args.text.now c.loop-id.cursor c.next_item.ensures c.in-Plain.is
+loop-id-smaller c = plain_fewer _ _ _ _ _ c.next_part.ensures c.in-Plain.is
 
 pub loop-id-preserved : goal.loop-id-preserved
 loop-id-preserved c =
@@ -151,7 +136,7 @@ loop-id-preserved c =
     let p = (goal.at.loop-id-preserved c).After-part in
     let a = (goal.at.loop-id-preserved c).At-loop-id in
     let s = (goal.at.loop-id-preserved c).Start in (
-      parts_on (tables_of s) (whole_of s) (left_at a) a.loop-id.invariant.0 (part_stretch s.args.metaspace (part_at p)) _ (ap (taken_apart (part_stretch s.args.metaspace)) (next_at p)) (put_at e),
+      parts_on (tables_of s) (whole_of s) (left_at a) a.loop-id.invariant.0 (part_stretch (metaspace_of s) (part_at p)) _ (ap (taken_apart (part_stretch (metaspace_of s))) (next_at p)) (put_at e),
       short_rest a.loop-id.invariant.1 _ _ (next_at p),
-      c.scratch-1.given ∙ a.loop-id.invariant.2,
+      omega (arith, a.loop-id.invariant.2),
     )

@@ -1,18 +1,18 @@
 use Rattle.merge.proofs.KeyLaws.{lowest_start, lowest_lower, lowest-kept, lowest-none, lowest-some}
 use Rattle.merge.proofs.kept.next_kept.Goals as goal
+use Rattle.merge.proofs.kept.next_kept.Goals.{then-this-lowest, else-this-lowest}
 
 pub loop-i-init : goal.loop-i-init
 loop-i-init c =
     let s = c.args in
     lowest_start s.res.now s.keys.now 0 0
 
-pub loop-i-preserved-then-this-lowest : goal.loop-i-preserved-then-this-lowest
-loop-i-preserved-then-this-lowest c =
-    lowest_lower c.args.res.now c.args.keys.now c.loop-i.invariant c.loop-i-test.true c.if-this-lowest.true
-
 pub loop-i-preserved : goal.loop-i-preserved
 loop-i-preserved c =
-    lowest-kept c.args.res.now c.args.keys.now c.loop-i.invariant c.loop-i-test.true c.if-this-lowest.false
+    elim c.if-this-lowest.branch [
+      | then-this-lowest w ↦ rw (w.lowest-is, w.best_place-is, w.best_key-is) (lowest_lower c.args.res.now c.args.keys.now c.loop-i.invariant c.loop-i-test.true w.if-this-lowest.true)
+      | else-this-lowest w ↦ rw (w.lowest-is, w.best_place-is, w.best_key-is) (lowest-kept c.args.res.now c.args.keys.now c.loop-i.invariant c.loop-i-test.true w.if-this-lowest.false)
+    ]
 
 pub returns-then-lowest-ge-NO_RANK : goal.returns-then-lowest-ge-NO_RANK
 returns-then-lowest-ge-NO_RANK c =

@@ -1,11 +1,11 @@
--- `merge::ranked::merge_scanned` meets its contract. The loop's invariant: the `n` ids that are left merge to what the first
+-- The loop's invariant: the `n` ids that are left merge to what the first
 -- ones merge to.
-use Rattle.merge.specs.inner.Turns.{row_in}
+use Rattle.merge.specs.inner.Turns.{row_by}
 use Rattle.merge.proofs.FrontLaws.{Merging}
 use Rattle.merge.proofs.ranked.merge_scanned.Given as goal
 
-abbrev pub invariant-loop-place : goal.invariant-loop-place
-invariant-loop-place l = Merging (row_in l.left l.right l.res l.rank l.row_index l.shift) l.initial.n l.initial.ids l.ids l.n
+abbrev pub invariant-loop-joining : goal.invariant-loop-joining
+invariant-loop-joining l = Merging (row_by l.rows) l.initial.n l.initial.ids l.ids l.n
 
-abbrev pub decreases-loop-place : goal.decreases-loop-place
-decreases-loop-place l = l.n
+abbrev pub decreases-loop-joining : goal.decreases-loop-joining
+decreases-loop-joining l = l.n

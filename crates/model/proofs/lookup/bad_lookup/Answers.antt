@@ -6,14 +6,14 @@ use Prim.Native.Nat.{ℕ}
 use borrow.Author.Tests.{eqb-true}
 use lib.Dec.{eqb}
 use Rattle.utf8.specs.Lists.{any}
-use Rattle.model.specs.Model.{strings}
+use Rattle.model.specs.Model.{strings_of}
 use Rattle.model.specs.Check.{names_no_piece, lookup_ascends, bad_lookup}
 use Rattle.model.proofs.CompleteLaws.{none_missing}
 use Rattle.model.proofs.lookup.bad_lookup.Goals as goal
 use Rattle.model.proofs.lookup.bad_lookup.Goals.{Else-names_no_piece, Else-not-lookup_ascends, Start}
 
 abbrev pieces : Start → List (List ℕ)
-pieces s = strings s.args.piece_bytes.now s.args.piece_offsets.now
+pieces s = strings_of s.args.pieces.now
 
 -- behind each test, the fact that it did not apply
 named : (e : Else-names_no_piece) → any (names_no_piece (pieces (goal.at.Else-names_no_piece e).Start)) e.args.lookup.now ≡ false
@@ -47,7 +47,7 @@ returns-then-not-lookup_ascends c =
 pub piece_missing-requires : goal.piece_missing-requires
 piece_missing-requires c =
     let s = (goal.at.piece_missing-requires c).Start in
-    record { ascending = ordered (goal.at.piece_missing-requires c).Else-not-lookup_ascends; long_listed = if_equal _ _ _ (λ e. none_missing (pieces s) s.args.lookup.now (named (goal.at.piece_missing-requires c).Else-names_no_piece) (ordered (goal.at.piece_missing-requires c).Else-not-lookup_ascends) (sym c.long_pieces-pieces.ensures ∙ e ∙ c.long_entries-entries.ensures)) }
+    record { ascending = ordered (goal.at.piece_missing-requires c).Else-not-lookup_ascends; long_listed = if_equal _ _ _ (λ e. none_missing (pieces s) s.args.lookup.now (named (goal.at.piece_missing-requires c).Else-names_no_piece) (ordered (goal.at.piece_missing-requires c).Else-not-lookup_ascends) (sym c.long_pieces.ensures ∙ e ∙ c.long_entries.ensures)) }
 
 pub returns : goal.returns
 unfolding bad_lookup

@@ -1,28 +1,20 @@
-use mathlib.Core.Path.{sym, ◌∙◌}
-use borrow.Author.Rules.{rules}
-use Rattle.model.specs.Model.{strings}
-use Rattle.model.proofs.LookupLaws.{ascend_start, ascend_next, ascend_broken, ascend_ended}
+use Rattle.std.proofs.Common.{ℕ, Bool, List, drop, ap, ◌∙◌, rules, tests}
+use Rattle.std.proofs.lemmas.Iterator.{YieldsList-from_slice, YieldsList-from_zip}
+use Rattle.std.proofs.lemmas.Iterator.Adapters.{YieldsList-from_skip}
+use Rattle.std.proofs.lemmas.Iterator.Search.{all_from_yields_List}
+use Rattle.utf8.proofs.Chains.{list_all-is, zip-neighbours}
+use Rattle.std.specs.List as std
+use Rattle.utf8.specs.Lists.{all}
+use Rattle.model.specs.ByteOrder.{is_before}
+use Rattle.model.specs.Model.{strings_of, piece}
+use Rattle.model.specs.Check.{lookup_ascends}
 use Rattle.model.proofs.lookup.lookup_ascends.Goals as goal
 
-pub loop-i-init : goal.loop-i-init
-loop-i-init c =
-    let st = c.args in
-    (search rules, ascend_start (strings st.piece_bytes.now st.piece_offsets.now) st.lookup.now)
-
-pub returns-then-not-piece_before : goal.returns-then-not-piece_before
-returns-then-not-piece_before c =
-    let l = c.loop-i in
-    let st = c.args in
-    sym (l.invariant.1 ∙ ascend_broken (strings st.piece_bytes.now st.piece_offsets.now) st.lookup.now l.i (search rules) (sym c.piece_before.ensures ∙ c.if-not-piece_before.true))
-
-pub loop-i-preserved : goal.loop-i-preserved
-loop-i-preserved c =
-    let l = c.loop-i in
-    let st = c.args in
-    (search rules, l.invariant.1 ∙ ascend_next (strings st.piece_bytes.now st.piece_offsets.now) st.lookup.now l.i (search rules) (sym c.piece_before.ensures ∙ c.if-not-piece_before.false))
-
 pub returns : goal.returns
+unfolding lookup_ascends
 returns c =
-    let l = c.loop-i in
-    let st = c.args in
-    sym (l.invariant.1 ∙ ascend_ended (strings st.piece_bytes.now st.piece_offsets.now) st.lookup.now l.i (search rules))
+    let lookup : List ℕ = c.args.lookup.now in
+    let pieces = strings_of c.args.pieces.now in
+    let before : ℕ × ℕ → Bool = λ p. is_before (piece pieces p.0) (piece pieces p.1) in
+    all_from_yields_List before c.all.new.self _ c.all.result c.all.ensures.ran (YieldsList-from_zip (YieldsList-from_slice lookup cc) (YieldsList-from_skip 1 (YieldsList-from_slice lookup cc) cc)) (λ x b q k. search (rules, tests))
+    ∙ list_all-is before (std.zip lookup (drop 1 lookup)) ∙ ap (all before) (zip-neighbours lookup)

@@ -1,4 +1,3 @@
--- `model::rows::row_joins` meets its contract.
 use Rattle.model.specs.Model.{piece}
 use Rattle.model.proofs.rows.row_joins.Goals as goal
 

@@ -1,38 +1,22 @@
-use mathlib.Core.Path.{sym, ◌∙◌}
-use borrow.Author.Rules.{rules}
-use Rattle.model.specs.Model.{strings}
-use Rattle.model.proofs.RowLaws.{join-start, join-next, join_broken, join-ended}
+use Rattle.std.proofs.Common.{ℕ, Bool, List, ap, ◌∙◌, rules, tests}
+use Rattle.std.proofs.lemmas.Iterator.{YieldsList-from_slice, YieldsList-from_zip}
+use Rattle.std.proofs.lemmas.Iterator.Search.{all_from_yields_List}
+use Rattle.std.specs.List as std
+use Rattle.utf8.proofs.Chains.{list_all-is, zip-is}
+use Rattle.utf8.specs.Lists.{all, same, zip}
+use mathlib.Core.List.{◌++◌}
+use Rattle.model.specs.Model.{strings_of, piece}
+use Rattle.model.specs.Check.{rows_join}
 use Rattle.model.proofs.rows.rows_join.Goals as goal
 
-pub loop-i-init : goal.loop-i-init
-loop-i-init c = (search rules, search join-start)
-
-pub returns-then-right-i : goal.returns-then-right-i
-returns-then-right-i c =
-    let l = c.loop-i in
-    let st = c.args in
-    sym (l.invariant.1 ∙ join-ended (strings st.piece_bytes.now st.piece_offsets.now) st.left.now st.right.now st.res.now l.i (search rules))
-
-pub returns-then-res-i : goal.returns-then-res-i
-returns-then-res-i c =
-    let l = c.loop-i in
-    let st = c.args in
-    sym (l.invariant.1 ∙ join-ended (strings st.piece_bytes.now st.piece_offsets.now) st.left.now st.right.now st.res.now l.i (search rules))
-
-pub returns-then-not-row_joins : goal.returns-then-not-row_joins
-returns-then-not-row_joins c =
-    let l = c.loop-i in
-    let st = c.args in
-    sym (l.invariant.1 ∙ join_broken (strings st.piece_bytes.now st.piece_offsets.now) st.left.now st.right.now st.res.now l.i (search rules) (search rules) (search rules) (sym c.row_joins.ensures ∙ c.if-not-row_joins.true))
-
-pub loop-i-preserved : goal.loop-i-preserved
-loop-i-preserved c =
-    let l = c.loop-i in
-    let st = c.args in
-    (search rules, l.invariant.1 ∙ join-next (strings st.piece_bytes.now st.piece_offsets.now) st.left.now st.right.now st.res.now l.i (search rules) (search rules) (search rules) (sym c.row_joins.ensures ∙ c.if-not-row_joins.false))
-
 pub returns : goal.returns
+unfolding rows_join
 returns c =
-    let l = c.loop-i in
-    let st = c.args in
-    sym (l.invariant.1 ∙ join-ended (strings st.piece_bytes.now st.piece_offsets.now) st.left.now st.right.now st.res.now l.i (search rules))
+    let left : List ℕ = c.args.left.now in
+    let right : List ℕ = c.args.right.now in
+    let res : List ℕ = c.args.res.now in
+    let pieces = strings_of c.args.pieces.now in
+    let joins : (ℕ × ℕ) × ℕ → Bool = λ row. same (piece pieces row.1) (piece pieces row.0.0 ++ piece pieces row.0.1) in
+    all_from_yields_List joins c.all.new.self _ c.all.result c.all.ensures.ran (YieldsList-from_zip (YieldsList-from_zip (YieldsList-from_slice left cc) (YieldsList-from_slice right cc)) (YieldsList-from_slice res cc)) (λ x b q k. search (rules, tests))
+    ∙ list_all-is joins (std.zip (std.zip left right) res)
+    ∙ ap (all joins) (zip-is (std.zip left right) res ∙ ap (λ (pairs : List (ℕ × ℕ)). zip pairs res) (zip-is left right))

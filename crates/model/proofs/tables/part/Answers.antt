@@ -5,21 +5,21 @@ use Rattle.utf8.proofs.Places.{slice_none, slice_of, slice_rest, slice_past}
 use Rattle.model.proofs.tables.part.Goals as goal
 
 pub returns-then-stop-start : goal.returns-then-stop-start
-returns-then-stop-start c =
+returns-then-stop-start g c =
     let st = c.args in
-    sym (slice_none st.start st.stop st.bytes.now (search rules))
+    sym (slice_none st.start st.stop st.cells.now (search rules))
 
-pub returns-then-stop-bytes : goal.returns-then-stop-bytes
-returns-then-stop-bytes c =
+pub returns-then-stop-cells : goal.returns-then-stop-cells
+returns-then-stop-cells g c =
     let st = c.args in
-    slice_of st.start st.stop st.bytes.now
+    slice_of st.start st.stop st.cells.now
 
-pub returns-then-start-bytes : goal.returns-then-start-bytes
-returns-then-start-bytes c =
+pub returns-then-start-cells : goal.returns-then-start-cells
+returns-then-start-cells g c =
     let st = c.args in
-    slice_rest st.start st.stop st.bytes.now (search rules)
+    slice_rest st.start st.stop st.cells.now (search rules)
 
 pub returns : goal.returns
-returns c =
+returns g c =
     let st = c.args in
-    sym (slice_past st.start st.stop st.bytes.now (search rules))
+    sym (slice_past st.start st.stop st.cells.now (search rules))

@@ -1,44 +1,46 @@
-use mathlib.Core.Path.{refl}
-use mathlib.Core.List.{[]}
-use native.Mathlib.Omega.{arith}
-use borrow.Author.Rules.{rules}
+-- `normalise::replace::inserted_length` meets its contract.
+use Rattle.std.proofs.Common.{◌≡◌, ◌+◌, ℕ, List, ◌++◌, [], ◌∙◌, refl, length, rules, arith}
+use Rattle.utf8.proofs.Writing.{Begins}
 use Rattle.normalise.specs.Steps.{replaced}
-use Rattle.normalise.proofs.StepLaws.{CharAt, char_at, inserted_ended}
-use Rattle.normalise.proofs.Measuring.{measured_start, measured_next, measured_over, measured_ended}
+use Rattle.normalise.proofs.Measuring.{measured_over, measured_next, measured_ended}
+use Rattle.normalise.proofs.StepLaws.{first_ends, inserted_first, inserted_none}
+use Rattle.normalise.proofs.HeadLaws.{lead_first}
+use Rattle.normalise.proofs.replace.inserted_length.Goals.{After-split_at}
 use Rattle.normalise.proofs.replace.inserted_length.Goals as goal
-use Rattle.normalise.proofs.replace.inserted_length.Goals.{After-char_step-w}
 
-here : (c : After-char_step-w) → CharAt c.args.content.now c.args.text.now c.loop-i.i c.char_step-w.result
-here c = char_at c.args.content.now c.args.text.now c.loop-i.i c.char_step-w.result c.loop-i-test.true c.char_step-w.ensures
+module _ (c : After-split_at) where
+  abbrev whole : List ℕ
+  whole = replaced [] c.args.content.now c.loop-rest.rest.now
 
-pub loop-i-init : goal.loop-i-init
-loop-i-init c =
-    let st = c.args in
-    (search rules, measured_start (replaced [] st.content.now st.text.now) st.room)
+  abbrev left : List ℕ
+  left = replaced [] c.args.content.now c.split_at.result.1.now
 
-pub returns-then-room-n : goal.returns-then-room-n
-returns-then-room-n c = measured_over c.loop-i.invariant.1 (here (goal.at.returns-then-room-n c).After-char_step-w).first (search rules)
+  first : Begins whole c.args.content.now (c.split_at.result.0.now ++ left)
+  first = inserted_first c.loop-rest.rest.now c.char_step.result (search rules) c.char_step.ensures c.args.content.now c.split_at.ensures.front c.split_at.ensures.back
 
-pub returns-then-room-n-2 : goal.returns-then-room-n-2
-returns-then-room-n-2 c = measured_over (measured_next c.loop-i.invariant.1 (here (goal.at.returns-then-room-n-2 c).After-char_step-w).first (search rules)) (here (goal.at.returns-then-room-n-2 c).After-char_step-w).second (omega (arith, (here (goal.at.returns-then-room-n-2 c).After-char_step-w).wide))
+pub split_at-requires : goal.split_at-requires
+split_at-requires c = first_ends c.loop-rest.rest.now c.char_step.result (search rules) c.char_step.ensures
 
-pub overflow_add-i : goal.overflow_add-i
-overflow_add-i c = omega (arith, (here (goal.at.overflow_add-i c).After-char_step-w).ends)
+pub returns-in_err-checked_sub : goal.returns-in_err-checked_sub
+returns-in_err-checked_sub c =
+    c.from_residual.ensures ∙ measured_over c.loop-rest.invariant (first (goal.at.returns-in_err-checked_sub c).After-split_at) (omega (arith, c.in_err-checked_sub.ensures))
 
-pub loop-i-smaller : goal.loop-i-smaller
-loop-i-smaller c = omega (arith, (here (goal.at.loop-i-smaller c).After-char_step-w).ends, (here (goal.at.loop-i-smaller c).After-char_step-w).some)
+pub returns-in_err-left : goal.returns-in_err-left
+returns-in_err-left c =
+    let at = (goal.at.returns-in_err-left c).After-split_at in
+    let less : c.in_ok-checked_sub.field-0 + length c.args.content.now ≡ c.loop-rest.left = omega (arith, c.in_ok-checked_sub.ensures) in
+    c.from_residual-in_err-left.ensures
+    ∙ measured_over (measured_next c.loop-rest.invariant (first at) less) (lead_first c.split_at.result.0.now (left at)) (omega (arith, c.in_err-left.ensures))
 
-pub loop-i-preserved : goal.loop-i-preserved
-loop-i-preserved c =
-    let h = here (goal.at.loop-i-preserved c).After-char_step-w in
-    (h.ends, rw h.wide at (measured_next (measured_next c.loop-i.invariant.1 h.first (search rules)) h.second (omega (arith, h.wide))))
+pub loop-rest-preserved : goal.loop-rest-preserved
+loop-rest-preserved c =
+    let at = (goal.at.loop-rest-preserved c).After-split_at in
+    let less : c.in_ok-checked_sub.field-0 + length c.args.content.now ≡ c.loop-rest.left = omega (arith, c.in_ok-checked_sub.ensures) in
+    measured_next (measured_next c.loop-rest.invariant (first at) less) (lead_first c.split_at.result.0.now (left at)) (omega (arith, c.in_ok-left.ensures))
 
-pub returns-then-room-n-3 : goal.returns-then-room-n-3
-returns-then-room-n-3 c =
-    let st = c.args in
-    measured_over c.loop-i.invariant.1 (inserted_ended st.content.now st.text.now c.loop-i.i (search rules)) (search rules)
+pub returns-in_err-left-2 : goal.returns-in_err-left-2
+returns-in_err-left-2 c =
+    c.from_residual-in_err-left-2.ensures ∙ measured_over c.loop-rest.invariant (inserted_none c.args.content.now c.loop-rest.rest.now (search rules)) (omega (arith, c.in_err-left-2.ensures))
 
 pub returns : goal.returns
-returns c =
-    let st = c.args in
-    measured_ended (measured_next c.loop-i.invariant.1 (inserted_ended st.content.now st.text.now c.loop-i.i (search rules)) (search rules)) refl
+returns c = measured_ended (measured_next c.loop-rest.invariant (inserted_none c.args.content.now c.loop-rest.rest.now (search rules)) (omega (arith, c.in_ok-left-2.ensures))) refl

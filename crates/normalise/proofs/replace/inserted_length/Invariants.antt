@@ -1,14 +1,11 @@
--- `normalise::replace::inserted_length` meets its contract. The loop's invariant: `n` bytes of the output are counted, and those of what
--- follows from `i` on are left.
-use mathlib.Core.List.{[]}
-use Prim.Native.Nat.{◌-◌, ◌≤◌}
-use lib.ListN.{length, drop}
+-- `normalise::replace::inserted_length` meets its contract. The loop's invariant: the output of what was passed is counted.
+use Rattle.std.proofs.Common.{[], length}
 use Rattle.normalise.specs.Steps.{replaced}
 use Rattle.normalise.proofs.Measuring.{Measured}
 use Rattle.normalise.proofs.replace.inserted_length.Given as goal
 
-abbrev pub invariant-loop-i : goal.invariant-loop-i
-invariant-loop-i l = (l.i ≤ length l.text) × Measured (replaced [] l.content l.text) (replaced [] l.content (drop l.i l.text)) l.room l.n
+abbrev pub invariant-loop-rest : goal.invariant-loop-rest
+invariant-loop-rest l = Measured (replaced [] l.content l.text) (replaced [] l.content l.rest) l.room l.left
 
-abbrev pub decreases-loop-i : goal.decreases-loop-i
-decreases-loop-i l = length l.text - l.i
+abbrev pub decreases-loop-rest : goal.decreases-loop-rest
+decreases-loop-rest l = length l.rest

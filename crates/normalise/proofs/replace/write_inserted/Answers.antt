@@ -1,82 +1,47 @@
-use mathlib.Core.Path.{◌≡◌, refl, ◌∙◌}
-use mathlib.Core.List.{List, [], ◌++◌}
-use Prim.Native.Nat.{ℕ, ◌+◌, ◌-◌}
-use native.Mathlib.Omega.{arith}
-use borrow.Author.Rules.{rules}
-use lib.ListN.{length, take, drop}
+-- `normalise::replace::write_inserted` meets its contract.
+use Rattle.std.proofs.Common.{ℕ, [], ◌+◌, ◌≡◌, refl, length, rules, arith, List, ◌++◌}
+use Rattle.utf8.proofs.Writing.{Begins, Written, written_fits, written-ended}
 use Rattle.normalise.specs.Steps.{replaced}
-use Rattle.normalise.proofs.StepLaws.{CharAt, char_at, inserted_ended}
-use Rattle.utf8.proofs.Writing.{Written, written_start, written-length, written_next, written_fits, written-part, written-ended}
+use borrow.Rule.Slice.PartMut.{put_mid}
+use Rattle.normalise.proofs.HeadLaws.{lead_first, written_copy}
+use Rattle.normalise.proofs.StepLaws.{first_ends, inserted_first, inserted_none}
+use Rattle.normalise.proofs.replace.write_inserted.Goals.{After-split_at}
 use Rattle.normalise.proofs.replace.write_inserted.Goals as goal
-use Rattle.normalise.proofs.replace.write_inserted.Goals.{After-char_step-w, After-copy_at}
 
-module _ (c : After-char_step-w) where
-  abbrev content : List ℕ
-  content = c.args.content.now
+module _ (c : After-split_at) where
+  abbrev whole : List ℕ
+  whole = replaced [] c.args.content.now c.loop-rest.rest.now
 
-  abbrev text : List ℕ
-  text = c.args.text.now
+  abbrev left : List ℕ
+  left = replaced [] c.args.content.now c.split_at.result.1.now
 
-  abbrev place : ℕ
-  place = c.loop-i.i
+  first : Begins whole c.args.content.now (c.split_at.result.0.now ++ left)
+  first = inserted_first c.loop-rest.rest.now c.char_step.result (search rules) c.char_step.ensures c.args.content.now c.split_at.ensures.front c.split_at.ensures.back
 
-  abbrev w : ℕ
-  w = c.char_step-w.result
+  -- the content is written, and the character is not
+  between : {k : ℕ} {new : List ℕ} → k ≡ length c.args.content.now → new ≡ c.args.content.now
+      → Written (replaced [] c.args.content.now c.args.text.now) (c.split_at.result.0.now ++ left) c.args.out.now (put_mid c.loop-rest.at k c.loop-rest.out new) (c.loop-rest.at + length c.args.content.now)
+  between = written_copy c.requires c.loop-rest.invariant first
 
-  here : CharAt content text place w
-  here = char_at content text place w c.loop-i-test.true c.char_step-w.ensures
+pub split_at-requires : goal.split_at-requires
+split_at-requires c = first_ends c.loop-rest.rest.now c.char_step.result (search rules) c.char_step.ensures
 
-  whole : place + w - place ≡ w
-  whole = omega arith
+pub slice_bounds-copy_from_slice-end : goal.slice_bounds-copy_from_slice-end
+slice_bounds-copy_from_slice-end c = omega (arith, written_fits c.requires c.loop-rest.invariant (first (goal.at.slice_bounds-copy_from_slice-end c).After-split_at))
 
--- The content is written, and the character is still to write.
-once : (c : After-copy_at)
-    → Written (replaced [] (content (goal.at.After-copy_at c).After-char_step-w) (text (goal.at.After-copy_at c).After-char_step-w))
-    (take (w (goal.at.After-copy_at c).After-char_step-w) (drop (place (goal.at.After-copy_at c).After-char_step-w) (text (goal.at.After-copy_at c).After-char_step-w)) ++ replaced [] (content (goal.at.After-copy_at c).After-char_step-w) (drop (place (goal.at.After-copy_at c).After-char_step-w + w (goal.at.After-copy_at c).After-char_step-w) (text (goal.at.After-copy_at c).After-char_step-w)))
-    c.args.out.now c.copy_at.new.out (c.loop-i.at + length (content (goal.at.After-copy_at c).After-char_step-w))
-once c = rw c.copy_at.ensures (written-part c.requires c.loop-i.invariant.1 (here (goal.at.After-copy_at c).After-char_step-w).first)
+pub slice_bounds-copy_from_slice-end-in-loop-rest : goal.slice_bounds-copy_from_slice-end-in-loop-rest
+slice_bounds-copy_from_slice-end-in-loop-rest c =
+    let at = (goal.at.slice_bounds-copy_from_slice-end-in-loop-rest c).After-split_at in
+    written_fits c.requires (between at (omega arith) c.copy_from_slice.ensures.after) (lead_first c.split_at.result.0.now (left at))
 
-pub loop-i-init : goal.loop-i-init
-loop-i-init c =
-    let st = c.args in
-    (search rules, written_start (replaced [] st.content.now st.text.now) st.out.now)
+pub loop-rest-preserved : goal.loop-rest-preserved
+loop-rest-preserved c =
+    let at = (goal.at.loop-rest-preserved c).After-split_at in
+    written_copy c.requires (between at (omega arith) c.copy_from_slice.ensures.after) (lead_first c.split_at.result.0.now (left at)) (omega arith) c.copy_from_slice-in-loop-rest.ensures.after
 
-pub copy_at-requires : goal.copy_at-requires
-copy_at-requires c = written_fits c.requires c.loop-i.invariant.1 (here (goal.at.copy_at-requires c).After-char_step-w).first
-
-pub overflow_add-at : goal.overflow_add-at
-overflow_add-at c = omega (arith, written_next c.requires c.loop-i.invariant.1 (here (goal.at.overflow_add-at c).After-char_step-w).first)
-
-pub overflow_add-next : goal.overflow_add-next
-overflow_add-next c = omega (arith, (here (goal.at.overflow_add-next c).After-char_step-w).ends)
-
-pub slice_bounds-copy_at-end : goal.slice_bounds-copy_at-end
-slice_bounds-copy_at-end c = (here (goal.at.slice_bounds-copy_at-end c).After-char_step-w).ends
-
-pub copy_at-requires-in-loop-i : goal.copy_at-requires-in-loop-i
-copy_at-requires-in-loop-i c = rw (whole (goal.at.copy_at-requires-in-loop-i c).After-char_step-w) (written_fits c.requires (once (goal.at.copy_at-requires-in-loop-i c).After-copy_at) (here (goal.at.copy_at-requires-in-loop-i c).After-char_step-w).second)
-
-pub overflow_add-at-in-loop-i : goal.overflow_add-at-in-loop-i
-overflow_add-at-in-loop-i c = omega (arith, written_next c.requires (once (goal.at.overflow_add-at-in-loop-i c).After-copy_at) (here (goal.at.overflow_add-at-in-loop-i c).After-char_step-w).second, (here (goal.at.overflow_add-at-in-loop-i c).After-char_step-w).wide)
-
-pub loop-i-smaller : goal.loop-i-smaller
-loop-i-smaller c = omega (arith, (here (goal.at.loop-i-smaller c).After-char_step-w).ends, (here (goal.at.loop-i-smaller c).After-char_step-w).some)
-
-pub loop-i-preserved : goal.loop-i-preserved
-loop-i-preserved c =
-    let h = here (goal.at.loop-i-preserved c).After-char_step-w in
-    (h.ends, rw (c.copy_at-in-loop-i.ensures, whole (goal.at.loop-i-preserved c).After-char_step-w, h.wide) (rw h.wide at (written-part c.requires (once (goal.at.loop-i-preserved c).After-copy_at) h.second)))
-
-pub copy_at-requires-2 : goal.copy_at-requires-2
-copy_at-requires-2 c =
-    let st = c.args in
-    written_fits c.requires c.loop-i.invariant.1 (inserted_ended st.content.now st.text.now c.loop-i.i (search rules))
-
-pub shape_of-out : goal.shape_of-out
-shape_of-out c = c.copy_at-2.auto.out ∙ written-length c.requires c.loop-i.invariant.1
+pub slice_bounds-copy_from_slice-end-2 : goal.slice_bounds-copy_from_slice-end-2
+slice_bounds-copy_from_slice-end-2 c = omega (arith, written_fits c.requires c.loop-rest.invariant (inserted_none c.args.content.now c.loop-rest.rest.now (search rules)))
 
 pub returns : goal.returns
 returns c =
-    let st = c.args in
-    c.copy_at-2.ensures
-    ∙ written-ended c.requires (written-part c.requires c.loop-i.invariant.1 (inserted_ended st.content.now st.text.now c.loop-i.i (search rules))) refl
+    written-ended c.requires (written_copy c.requires c.loop-rest.invariant (inserted_none c.args.content.now c.loop-rest.rest.now (search rules)) (omega arith) c.copy_from_slice-2.ensures.after) refl

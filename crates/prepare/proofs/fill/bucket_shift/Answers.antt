@@ -4,7 +4,7 @@ use native.Mathlib.Nat.{pow-succ'}
 use native.Mathlib.Numerals.{add-one}
 use native.Mathlib.Omega.{arith}
 use borrow.Author.Rules.{rules}
-use Rattle.prepare.proofs.WalkLaws.{shift_start, shift_next, shift_stop, shift_end, shift_room}
+use Rattle.prepare.proofs.WalkLaws.{shift_from, shift_start, shift_next, shift_stop, shift_end, shift_room}
 use Rattle.prepare.proofs.fill.bucket_shift.Goals as goal
 
 pub loop-shift-init : goal.loop-shift-init
@@ -30,4 +30,5 @@ loop-shift-preserved c =
 pub returns : goal.returns
 returns c =
     let l = c.loop-shift in
-    (sym (l.invariant.2 ∙ shift_end c.args.count l.shift (search rules)), search rules)
+    let last : l.shift ≡ 7 = omega arith in
+    (sym (l.invariant.2 ∙ ap (shift_from c.args.count) last ∙ shift_end c.args.count 7 (omega arith)), search rules)

@@ -1,4 +1,3 @@
--- `prepare::fill::bucket_shift` meets its contract.
 use mathlib.Core.Path.{◌≡◌}
 use Prim.Native.Nat.{◌-◌, ◌*◌, ◌^◌, ◌≤◌}
 use Rattle.index.specs.Index.{bucket_shift}

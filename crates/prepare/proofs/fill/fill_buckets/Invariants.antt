@@ -1,4 +1,4 @@
--- `prepare::fill::fill_buckets` meets its contract: each walk goes on where the last ended, and one number more stands in its place.
+-- each walk goes on where the last ended, and one number more stands in its place.
 use Prim.Native.Nat.{◌-◌}
 use Rattle.index.specs.Index.{bucket_start}
 use Rattle.prepare.proofs.WalkLaws.{Filling}

@@ -1,6 +1,6 @@
 use Prim.Native.Nat.{ℕ}
 use borrow.Author.Rules.{rules}
-use Rattle.model.specs.Model.{strings}
+use Rattle.model.specs.Model.{strings_of}
 use Rattle.index.specs.Index.{byte_id, byte_ids}
 use Rattle.prepare.proofs.WalkLaws.{filled-start, filled_next, filled-ended}
 use Rattle.prepare.proofs.fill.fill_byte_ids.Goals as goal
@@ -8,7 +8,7 @@ use Rattle.prepare.proofs.fill.fill_byte_ids.Goals.{Start}
 
 -- the id of a byte
 abbrev row : Start → ℕ → ℕ
-row s = byte_id (strings s.args.piece_bytes.now s.args.piece_offsets.now) s.args.lookup.now
+row s = byte_id (strings_of s.args.pieces.now) s.args.lookup.now
 
 pub loop-b-init : goal.loop-b-init
 loop-b-init c = let s = (goal.at.loop-b-init c).Start in filled-start (row s) 256 326 s.args.words.now

@@ -3,14 +3,14 @@ use mathlib.Core.List.{List}
 use Prim.Native.Nat.{ℕ}
 use native.Mathlib.Omega.{arith}
 use borrow.Author.Rules.{rules}
-use Rattle.model.specs.Model.{strings}
+use Rattle.model.specs.Model.{strings_of}
 use Rattle.index.specs.Index.{first_byte_start, first_bytes}
 use Rattle.prepare.proofs.WalkLaws.{first-zero, first_on, first-most, filled-ended, filling_start, filling_next}
 use Rattle.prepare.proofs.fill.fill_first_bytes.Goals as goal
 use Rattle.prepare.proofs.fill.fill_first_bytes.Goals.{After-first_below_from-at, Start}
 
 abbrev pieces : Start → List (List ℕ)
-pieces s = strings s.args.piece_bytes.now s.args.piece_offsets.now
+pieces s = strings_of s.args.pieces.now
 
 -- where the entries of a byte begin
 abbrev row : Start → ℕ → ℕ

@@ -1,6 +1,6 @@
--- `prepare::fill::fill_index` meets its contract: the words of the pieces, and behind them those of the tokens.
+-- the words of the pieces, and behind them those of the tokens.
 use native.Mathlib.Omega.{arith}
-use Rattle.model.specs.Model.{strings}
+use Rattle.model.specs.Model.{strings_of}
 use Rattle.prepare.proofs.LayoutLaws.{index-filled}
 use Rattle.prepare.proofs.fill.fill_index.Goals as goal
 
@@ -9,6 +9,6 @@ fill_pieces-requires c = record { ascending = c.requires.ascending; lookup_len_b
 
 pub returns : goal.returns
 returns c =
-    index-filled c.args.kind c.args.raw_path c.args.count c.args.noted.now (strings c.args.piece_bytes.now c.args.piece_offsets.now) c.args.lookup.now c.args.left.now c.args.right.now c.args.rank.now
-    (strings c.args.first.now c.args.first_offsets.now) (strings c.args.second.now c.args.second_offsets.now) c.requires.noted_len
+    index-filled c.args.found.now.kind c.args.found.now.raw_path c.args.found.now.count c.args.found.now.noted.now (strings_of c.args.model.now.pieces) c.args.model.now.lookup.now c.args.model.now.rows.left.now c.args.model.now.rows.right.now c.args.model.now.rows.rank.now
+    (strings_of c.args.model.now.first.contents) (strings_of c.args.model.now.second.contents) c.requires.noted_len
     c.args.words.now c.fill_pieces.new.words c.fill_tokens.new.words c.fill_pieces.ensures c.fill_tokens.ensures

@@ -1,11 +1,11 @@
--- `prepare::fill::fill_pieces` meets its contract: its parts are written one after the other.
+-- its parts are written one after the other.
 use mathlib.Core.Path.{◌≡◌, refl, sym, ap, ◌∙◌}
 use mathlib.Core.List.{List, ◌++◌}
 use Prim.Native.Nat.{ℕ, ◌≤◌}
 use native.Mathlib.Omega.{arith}
 use lib.ListN.{length, take, drop, length-set, length-drop}
 use lib.Seq.{length-take-le}
-use Rattle.model.specs.Model.{strings}
+use Rattle.model.specs.Model.{strings_of}
 use Rattle.model.specs.Mark.{mark}
 use Rattle.model.proofs.StringLaws.{length-strings}
 use Rattle.index.specs.Index.{mark_id, bucket_shift, pair_tables}
@@ -15,20 +15,20 @@ use Rattle.prepare.proofs.fill.fill_pieces.Goals as goal
 use Rattle.prepare.proofs.fill.fill_pieces.Goals.{After-copy_crossings, After-fill_buckets, After-fill_pairs, After-fill_piece_index, After-key_id-mark, Start}
 
 abbrev pieces : Start → List (List ℕ)
-pieces s = strings s.args.piece_bytes.now s.args.piece_offsets.now
+pieces s = strings_of s.args.model.now.pieces
 
 pub key_id-mark-requires : goal.key_id-mark-requires
 key_id-mark-requires c = c.requires.ascending
 
 -- the mark's id and the shift are those of the index
-mark-is : (c : After-key_id-mark) → c.key_id-mark.result ≡ mark_id (pieces (goal.at.After-key_id-mark c).Start) c.args.lookup.now
+mark-is : (c : After-key_id-mark) → c.key_id-mark.result ≡ mark_id (pieces (goal.at.After-key_id-mark c).Start) c.args.model.now.lookup.now
 unfolding mark_id mark
 mark-is c = c.key_id-mark.ensures
 
 shift_is : (c : After-key_id-mark) → c.bucket_shift-shift.result ≡ bucket_shift (length (pieces (goal.at.After-key_id-mark c).Start))
 shift_is c =
     c.bucket_shift-shift.ensures.0
-    ∙ ap bucket_shift (c.string_count.ensures ∙ sym (length-strings c.args.piece_bytes.now c.args.piece_offsets.now))
+    ∙ ap bucket_shift (c.len.ensures ∙ sym (length-strings c.args.model.now.pieces.bytes.now c.args.model.now.pieces.offsets.now))
 
 -- there is room
 room : (s : Start) → 168519 ≤ length s.args.words.now
@@ -38,14 +38,14 @@ room s = s.requires.first_tokens_at_in_bounds
 long_1 : (c : After-copy_crossings) → length c.copy_crossings.new.words ≡ length c.args.words.now
 long_1 c =
     let s = (goal.at.After-copy_crossings c).Start in
-    crossed-long s.args.kind s.args.raw_path s.args.count s.args.noted.now (pieces s) s.args.lookup.now s.args.left.now s.args.right.now s.args.rank.now s.requires.noted_len s.args.words.now (room s)
+    crossed-long s.args.found.now.kind s.args.found.now.raw_path s.args.found.now.count s.args.found.now.noted.now (pieces s) s.args.model.now.lookup.now s.args.model.now.rows.left.now s.args.model.now.rows.right.now s.args.model.now.rows.rank.now s.requires.noted_len s.args.words.now (room s)
     c.copy_crossings.new.words c.copy_crossings.ensures
 
 module _ (c : After-fill_piece_index) where
   long_2 : length c.fill_piece_index.new.words ≡ length c.args.words.now
   long_2 =
       let s = (goal.at.After-fill_piece_index c).Start in
-      started_long s.args.kind s.args.raw_path s.args.count s.args.noted.now (pieces s) s.args.lookup.now s.args.left.now s.args.right.now s.args.rank.now s.requires.noted_len s.args.words.now (room s)
+      started_long s.args.found.now.kind s.args.found.now.raw_path s.args.found.now.count s.args.found.now.noted.now (pieces s) s.args.model.now.lookup.now s.args.model.now.rows.left.now s.args.model.now.rows.right.now s.args.model.now.rows.rank.now s.requires.noted_len s.args.words.now (room s)
       c.copy_crossings.new.words c.copy_crossings.ensures c.key_id-mark.result c.bucket_shift-shift.result (mark-is (goal.at.After-fill_piece_index c).After-key_id-mark) (shift_is (goal.at.After-fill_piece_index c).After-key_id-mark)
       c.fill_piece_index.new.words c.fill_piece_index.ensures
 
@@ -56,7 +56,7 @@ module _ (c : After-fill_buckets) where
   long_3 : length bucketed ≡ length c.args.words.now
   long_3 =
       let s = (goal.at.After-fill_buckets c).Start in
-      bucketed_long s.args.kind s.args.raw_path s.args.count s.args.noted.now (pieces s) s.args.lookup.now s.args.left.now s.args.right.now s.args.rank.now s.requires.noted_len s.args.words.now (room s)
+      bucketed_long s.args.found.now.kind s.args.found.now.raw_path s.args.found.now.count s.args.found.now.noted.now (pieces s) s.args.model.now.lookup.now s.args.model.now.rows.left.now s.args.model.now.rows.right.now s.args.model.now.rows.rank.now s.requires.noted_len s.args.words.now (room s)
       c.copy_crossings.new.words c.copy_crossings.ensures c.key_id-mark.result c.bucket_shift-shift.result (mark-is (goal.at.After-fill_buckets c).After-key_id-mark) (shift_is (goal.at.After-fill_buckets c).After-key_id-mark)
       c.fill_piece_index.new.words c.fill_piece_index.ensures bucketed c.fill_buckets.ensures
 
@@ -65,24 +65,24 @@ module _ (c : After-fill_pairs) where
   abbrev last : List ℕ
   last = take 4679 (bucketed (goal.at.After-fill_pairs c).After-fill_buckets) ++ (c.fill_pairs.new.words ++ drop 163840 (drop 4679 (bucketed (goal.at.After-fill_pairs c).After-fill_buckets)))
 
-  last-is : last ≡ take 4679 (bucketed (goal.at.After-fill_pairs c).After-fill_buckets) ++ pair_tables c.args.left.now c.args.right.now c.args.rank.now ++ drop 168519 (bucketed (goal.at.After-fill_pairs c).After-fill_buckets)
+  last-is : last ≡ take 4679 (bucketed (goal.at.After-fill_pairs c).After-fill_buckets) ++ pair_tables c.args.model.now.rows.left.now c.args.model.now.rows.right.now c.args.model.now.rows.rank.now ++ drop 168519 (bucketed (goal.at.After-fill_pairs c).After-fill_buckets)
   last-is =
       lent_back 4679 163840 168519 (bucketed (goal.at.After-fill_pairs c).After-fill_buckets) c.fill_pairs.new.words
-      (λ (n : ℕ). pair_tables c.args.left.now c.args.right.now c.args.rank.now) refl (omega (arith, long_3 (goal.at.After-fill_pairs c).After-fill_buckets, room (goal.at.After-fill_pairs c).Start)) c.fill_pairs.ensures
+      (λ (n : ℕ). pair_tables c.args.model.now.rows.left.now c.args.model.now.rows.right.now c.args.model.now.rows.rank.now) refl (omega (arith, long_3 (goal.at.After-fill_pairs c).After-fill_buckets, room (goal.at.After-fill_pairs c).Start)) c.fill_pairs.ensures
 
   long_4 : length last ≡ length c.args.words.now
   long_4 =
       let s = (goal.at.After-fill_pairs c).Start in
-      last-long s.args.kind s.args.raw_path s.args.count s.args.noted.now (pieces s) s.args.lookup.now s.args.left.now s.args.right.now s.args.rank.now s.requires.noted_len s.args.words.now (room s)
+      last-long s.args.found.now.kind s.args.found.now.raw_path s.args.found.now.count s.args.found.now.noted.now (pieces s) s.args.model.now.lookup.now s.args.model.now.rows.left.now s.args.model.now.rows.right.now s.args.model.now.rows.rank.now s.requires.noted_len s.args.words.now (room s)
       c.copy_crossings.new.words c.copy_crossings.ensures c.key_id-mark.result c.bucket_shift-shift.result (mark-is (goal.at.After-fill_pairs c).After-key_id-mark) (shift_is (goal.at.After-fill_pairs c).After-key_id-mark)
       c.fill_piece_index.new.words c.fill_piece_index.ensures (bucketed (goal.at.After-fill_pairs c).After-fill_buckets) c.fill_buckets.ensures last last-is
 
   whole :
       last
-      ≡ piece_words c.args.kind c.args.raw_path c.args.count c.args.noted.now (pieces (goal.at.After-fill_pairs c).Start) c.args.lookup.now c.args.left.now c.args.right.now c.args.rank.now ++ drop 168519 c.args.words.now
+      ≡ piece_words c.args.found.now.kind c.args.found.now.raw_path c.args.found.now.count c.args.found.now.noted.now (pieces (goal.at.After-fill_pairs c).Start) c.args.model.now.lookup.now c.args.model.now.rows.left.now c.args.model.now.rows.right.now c.args.model.now.rows.rank.now ++ drop 168519 c.args.words.now
   whole =
       let s = (goal.at.After-fill_pairs c).Start in
-      pieces-filled s.args.kind s.args.raw_path s.args.count s.args.noted.now (pieces s) s.args.lookup.now s.args.left.now s.args.right.now s.args.rank.now s.requires.noted_len s.args.words.now (room s)
+      pieces-filled s.args.found.now.kind s.args.found.now.raw_path s.args.found.now.count s.args.found.now.noted.now (pieces s) s.args.model.now.lookup.now s.args.model.now.rows.left.now s.args.model.now.rows.right.now s.args.model.now.rows.rank.now s.requires.noted_len s.args.words.now (room s)
       c.copy_crossings.new.words c.copy_crossings.ensures c.key_id-mark.result c.bucket_shift-shift.result (mark-is (goal.at.After-fill_pairs c).After-key_id-mark) (shift_is (goal.at.After-fill_pairs c).After-key_id-mark)
       c.fill_piece_index.new.words c.fill_piece_index.ensures (bucketed (goal.at.After-fill_pairs c).After-fill_buckets) c.fill_buckets.ensures last last-is
 

@@ -1,10 +1,10 @@
--- `prepare::fill::fill_tokens` meets its contract: the words of both lists are written one after the other.
+-- the words of both lists are written one after the other.
 use mathlib.Core.Path.{◌≡◌, refl, ◌∙◌}
 use mathlib.Core.List.{List, ◌++◌}
 use Prim.Native.Nat.{ℕ}
 use native.Mathlib.Omega.{arith}
 use lib.ListN.{length, take, drop, set, length-set}
-use Rattle.model.specs.Model.{strings}
+use Rattle.model.specs.Model.{strings_of}
 use Rattle.sections.specs.Beginnings.{beginnings}
 use Rattle.prepare.specs.Layout.{token_words}
 use Rattle.prepare.proofs.LayoutLaws.{lent_back, one-long, two_long, tokens-filled}
@@ -16,10 +16,10 @@ words c = c.args.words.now
 
 -- the contents of the two lists
 abbrev first : After-first_bytes → List (List ℕ)
-first c = strings c.args.first.now c.args.first_offsets.now
+first c = strings_of c.args.first.now
 
 abbrev second : After-first_bytes → List (List ℕ)
-second c = strings c.args.second.now c.args.second_offsets.now
+second c = strings_of c.args.second.now
 
 -- the buffer with the first list's words
 module _ (c : After-first_bytes) where

@@ -1,4 +1,3 @@
--- `prepare::fill::power` meets its contract.
 use Prim.Native.Nat.{◌≤◌, ◌*◌, ◌%◌, ◌^◌}
 use mathlib.Core.Path.{◌≡◌}
 use native.Mathlib.Nat.{one-mul, mod-eq_of_lt, pow-le-pow_right}

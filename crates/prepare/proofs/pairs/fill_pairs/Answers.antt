@@ -1,4 +1,4 @@
--- `prepare::pairs::fill_pairs` meets its contract: the second table is written behind the first.
+-- the second table is written behind the first.
 use mathlib.Core.Path.{◌≡◌, ap, ◌∙◌}
 use mathlib.Core.List.{List, ◌++◌}
 use Prim.Native.Nat.{ℕ}
@@ -21,14 +21,14 @@ module _ (c : After-fill_first) where
   first = c.fill_first.new.words
 
   abbrev words : List ℕ
-  words = pair_words c.args.left.now c.args.right.now c.args.rank.now
+  words = pair_words c.args.rows.now.left.now c.args.rows.now.right.now c.args.rows.now.rank.now
 
   -- the buffer, with the first table in front
   abbrev buffer : List ℕ
   buffer = first ++ drop 131072 c.args.words.now
 
   first-long : length first ≡ 131072
-  first-long = ap length c.fill_first.ensures ∙ length_pairs c.args.left.now c.args.right.now c.args.rank.now
+  first-long = ap length c.fill_first.ensures ∙ length_pairs c.args.rows.now.left.now c.args.rows.now.right.now c.args.rows.now.rank.now
 
   buffer_long : length buffer ≡ 163840
   buffer_long = omega (arith, length-append first (drop 131072 c.args.words.now), first-long, length-drop 131072 c.args.words.now, c.requires.words_len)
@@ -45,4 +45,4 @@ unfolding pair_tables
 returns c =
     let f = (goal.at.returns c).After-fill_first in
     c.fill_second.ensures
-    ∙ ap (λ (w : List ℕ). w ++ second_words f.args.left.now f.args.right.now f.args.rank.now w) (front-is f)
+    ∙ ap (λ (w : List ℕ). w ++ second_words f.args.rows.now.left.now f.args.rows.now.right.now f.args.rows.now.rank.now w) (front-is f)

@@ -1,5 +1,5 @@
--- `prepare::pairs::word_with` meets its contract: by the tests that it makes.
-use mathlib.Core.Path.{◌≡◌, refl, ap, ◌∙◌}
+-- by the tests that it makes.
+use mathlib.Core.Path.{◌≡◌, refl}
 use Prim.Native.Nat.{ℕ, ◌-◌, ◌%◌}
 use native.Mathlib.Omega.{arith}
 use lib.ListN.{get_or}
@@ -18,7 +18,7 @@ module _ (c : After-number_at-2) where
   named = c.args.word % 2147483648
 
   old_rank : c.number_at-2.result ≡ get_or c.args.rank.now (named - 1) 0
-  old_rank = c.number_at-2.ensures ∙ ap (λ (i : ℕ). get_or c.args.rank.now i 0) c.wide.ensures.0
+  old_rank = c.number_at-2.ensures
 
   some : named ≡ 0 → ⊥
   some = c.if-named-eq0.false

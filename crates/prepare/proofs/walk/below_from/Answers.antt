@@ -1,20 +1,17 @@
-use mathlib.Core.Path.{refl, sym, ◌∙◌}
-use native.Mathlib.Omega.{arith}
-use borrow.Author.Rules.{rules}
-use Rattle.prepare.proofs.WalkLaws.{below_next, below-stop, below_end}
+-- `prepare::walk::below_from` meets its contract.
+use Rattle.std.proofs.Common.{rules, tests, ℕ}
+use Rattle.std.proofs.lemmas.Iterator.{YieldsList-from_slice}
+use Rattle.std.proofs.lemmas.Iterator.Search.{YieldsList-from_take_while}
+use Rattle.std.proofs.lemmas.Iterator.Consumers.{count_from_yields_List}
+use lib.Dec.{ltb}
+use Rattle.prepare.specs.inner.Walk.{below_from}
+use Rattle.prepare.proofs.WalkLaws.{walked}
 use Rattle.prepare.proofs.walk.below_from.Goals as goal
 
-pub loop-i-init : goal.loop-i-init
-loop-i-init c = refl
-
-pub returns-then-bound-wide : goal.returns-then-bound-wide
-returns-then-bound-wide c =
-    sym (c.loop-i.invariant ∙ below-stop c.args.column.now c.loop-i.i c.args.bound (search rules) (omega arith))
-
-pub loop-i-preserved : goal.loop-i-preserved
-loop-i-preserved c =
-    c.loop-i.invariant ∙ below_next c.args.column.now c.loop-i.i c.args.bound (search rules) (omega arith)
-
 pub returns : goal.returns
+unfolding below_from
 returns c =
-    sym (c.loop-i.invariant ∙ below_end c.args.column.now c.loop-i.i c.args.bound c.loop-i-test.false)
+    let below = λ (n : ℕ). ltb n c.args.bound in
+    walked below c.args.from c.args.column.now (rw c.part-rest.ensures at
+    (count_from_yields_List c.take_while.result _ c.count.ensures.ran
+    (YieldsList-from_take_while _ below (YieldsList-from_slice c.part-rest.result.now cc) c.take_while.ensures.closure c.take_while.ensures.done (λ x b q k. search (rules, tests)))))

@@ -9,5 +9,5 @@ pub returns : goal.returns
 returns c =
     let a = c.args in
     c.standing_of.ensures
-    ∙ ap (λ (t : AddedToken). standing_of (token_of a.bytes.now t) a.text.now a.start a.place) c.record_at.ensures
-    ∙ sym (standing-is a.bytes.now a.tokens.now a.text.now a.start a.place a.row)
+    ∙ ap (λ (t : AddedToken). standing_of (token_of a.bytes.now t) a.text.now a.start a.found.place) c.record_at.ensures
+    ∙ sym (standing-is a.bytes.now a.tokens.now a.text.now a.start a.found.place a.found.row)

@@ -1,31 +1,26 @@
-use mathlib.Core.Path.{refl, sym, ap, ◌∙◌}
-use mathlib.Core.List.{List}
-use Prim.Native.Nat.{ℕ, ◌+◌}
-use borrow.Author.Rules.{rules}
-use lib.ListN.{length, drop}
-use Rattle.model.specs.Model.{strings}
+use Rattle.std.proofs.Common.{◌≡◌, ◌<◌, length, replicate, refl, sym, ap, ◌∙◌, arith, rules}
+use Rattle.model.specs.Model.{strings_of}
 use Rattle.model.proofs.StringLaws.{length-strings}
-use Rattle.sections.specs.inner.Seek.{note_first, note_firsts}
+use Rattle.sections.specs.inner.Seek.{note_firsts}
 use Rattle.sections.proofs.SeekLaws.{noted-first, noted-next, noted-ended}
 use Rattle.sections.proofs.first.first_bytes.Goals as goal
-use Rattle.sections.proofs.first.first_bytes.Goals.{After-string_count-count}
-
-abbrev contents : After-string_count-count → List (List ℕ)
-contents c = strings c.args.bytes.now c.args.offsets.now
 
 pub loop-row-init : goal.loop-row-init
-loop-row-init c =
-    let a = c.args in
-    (c.string_count-count.ensures ∙ sym (length-strings a.bytes.now a.offsets.now), search rules, refl, refl)
+loop-row-init c = refl
 
 pub loop-row-preserved : goal.loop-row-preserved
 loop-row-preserved c =
+    let contents = c.args.contents.now in
     let l = c.loop-row in
-    let cs = contents (goal.at.loop-row-preserved c).After-string_count-count in
-    (l.invariant.0, search rules, search rules, ap (note_firsts (drop (l.row + 1) cs)) (c.note_first.ensures ∙ ap (λ (content : List ℕ). note_first content l.begins) c.string_at-content.ensures) ∙ sym (noted-next cs l.begins l.row (search rules)) ∙ l.invariant.3)
+    let inside : l.row < length (strings_of contents) = omega (arith, length-strings contents.bytes.now contents.offsets.now) in
+    rw (c.note_first.ensures, c.get.ensures) (sym (noted-next (strings_of contents) l.begins l.row inside) ∙ l.invariant)
 
 pub returns : goal.returns
 returns c =
+    let contents = c.args.contents.now in
     let l = c.loop-row in
-    let cs = contents (goal.at.returns c).After-string_count-count in
-    sym (noted-ended cs l.begins l.row (search rules)) ∙ l.invariant.3 ∙ ap (note_firsts cs) c.clear.ensures ∙ noted-first cs (length c.args.begins.now)
+    let cleared : c.fill.new.self ≡ replicate (length c.args.begins.now) 0 = search rules in
+    sym (noted-ended (strings_of contents) l.begins l.row (omega (arith, length-strings contents.bytes.now contents.offsets.now)))
+    ∙ l.invariant
+    ∙ ap (note_firsts (strings_of contents)) cleared
+    ∙ noted-first (strings_of contents) (length c.args.begins.now)

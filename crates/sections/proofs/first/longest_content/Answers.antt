@@ -1,43 +1,18 @@
-use mathlib.Core.Path.{◌≡◌, sym, ap, ◌∙◌}
-use mathlib.Core.List.{List}
-use Prim.Native.Nat.{ℕ}
-use native.Mathlib.Omega.{arith}
-use borrow.Author.Rules.{rules}
-use lib.ListN.{length, drop}
-use Rattle.model.specs.Model.{strings}
+use Rattle.std.proofs.Common.{ℕ, [], length, get_or, sym, ap, ◌∙◌, arith, rules, tests}
+use Rattle.std.proofs.lemmas.Iterator.{YieldsList-from_range, YieldsList-from_map}
+use Rattle.std.proofs.lemmas.Iterator.Consumers.{max_from_yields_List}
+use Rattle.std.specs.Option.{unwrap_or}
+use Rattle.std.specs.Prelude.{Option}
+use Rattle.std.proofs.lemmas.Iterator.Adapters.{option_map_id}
+use Rattle.model.specs.Model.{strings_of}
 use Rattle.model.proofs.StringLaws.{length-strings}
-use Rattle.sections.specs.Beginnings.{longest_content}
-use Rattle.sections.proofs.LengthLaws.{longest-none, longest_taken, longest-kept}
+use Rattle.sections.proofs.LengthLaws.{longest-reduced}
 use Rattle.sections.proofs.first.longest_content.Goals as goal
-use Rattle.sections.proofs.first.longest_content.Goals.{After-string_count-row}
-
-abbrev contents : After-string_count-row → List (List ℕ)
-contents c = strings c.args.bytes.now c.args.offsets.now
-
--- how many there are
-counted : (c : After-string_count-row) → c.string_count-row.result ≡ length (contents c)
-counted c = c.string_count-row.ensures ∙ sym (length-strings c.args.bytes.now c.args.offsets.now)
-
-pub loop-row-init : goal.loop-row-init
-loop-row-init c = (omega (arith, counted c), longest-none (contents c) c.string_count-row.result (omega (arith, counted c)))
-
-pub content_length-next-requires : goal.content_length-next-requires
-content_length-next-requires c =
-    omega (arith, c.loop-row.invariant.0, length-strings c.args.bytes.now c.args.offsets.now)
-
-pub loop-row-preserved-then-long-next : goal.loop-row-preserved-then-long-next
-loop-row-preserved-then-long-next c =
-    let l = c.loop-row in
-    let e = c.content_length-next.ensures in
-    (search rules, e ∙ longest_taken (contents (goal.at.loop-row-preserved-then-long-next c).After-string_count-row) l.row (search rules) l.invariant.0 l.long l.invariant.1 (omega (arith, e)))
-
-pub loop-row-preserved : goal.loop-row-preserved
-loop-row-preserved c =
-    let l = c.loop-row in
-    (search rules, longest-kept (contents (goal.at.loop-row-preserved c).After-string_count-row) l.row (search rules) l.invariant.0 l.long l.invariant.1 (omega (arith, c.content_length-next.ensures)))
 
 pub returns : goal.returns
 returns c =
-    let l = c.loop-row in
-    let none_left : l.row ≡ 0 = search rules in
-    l.invariant.1 ∙ ap (λ (n : ℕ). longest_content (drop n (contents (goal.at.returns c).After-string_count-row))) none_left
+    let contents = strings_of c.args.contents.now in
+    let picked = max_from_yields_List c.map.result c.max.result c.max.ensures.ran (YieldsList-from_map _ (λ (row : ℕ). length (get_or contents row [])) (YieldsList-from_range 0 c.len.result c.len.result c.map.ensures.source (omega arith)) c.map.ensures.closure (λ x r q k. search (rules, tests))) in
+    c.unwrap_or.ensures
+    ∙ ap (λ (o : Option ℕ). unwrap_or o 0) (sym (option_map_id c.max.result) ∙ picked)
+    ∙ longest-reduced contents c.len.result (c.len.ensures ∙ sym (length-strings _ _))

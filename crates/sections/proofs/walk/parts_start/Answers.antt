@@ -1,5 +1,4 @@
--- `sections::walk::parts_start` meets its contract.
-use mathlib.Core.Path.{refl}
+use Rattle.std.proofs.Common.{refl}
 use Rattle.sections.specs.inner.Walk.{parts_start}
 use Rattle.sections.proofs.walk.parts_start.Goals as goal
 

@@ -1,7 +1,11 @@
 -- `stretches::stretch::encode_stretch` meets its contract.
+use Prim.Native.Nat.{ℕ}
 use mathlib.Core.Path.{ap, ◌∙◌}
+use mathlib.Core.Bool.{Bool}
+use mathlib.Core.List.{List}
 use lib.ListN.{length}
 use Rattle.merge.specs.inner.Turns.{Merged}
+use Rattle.stretches.specs.inner.Writers.{Writer}
 use Rattle.stretches.proofs.PartLaws.{nothing_written, section_written, keeps_parts}
 use Rattle.stretches.proofs.stretch.encode_stretch.Goals as goal
 
@@ -10,7 +14,10 @@ returns-then-section-eq0 c = nothing_written _ _ _ _ _ c.if-section-eq0.true
 
 pub returns : goal.returns
 returns c =
-    c.encode_by_rows.ensures ∙ section_written _ _ _ _ _ c.if-section-eq0.false
+    let a = c.args in
+    c.encode_units.ensures
+    ∙ ap (λ (write : Bool → Bool → List ℕ → Writer). write a.virtual_mark a.raw a.section.now a.out.now) c.new.ensures
+    ∙ section_written _ _ _ _ _ c.if-section-eq0.false
 
 pub shape_of-out : goal.shape_of-out
 shape_of-out c = ap (λ (d : Merged). length d.ids) (returns c) ∙ (keeps_parts _ _).long _

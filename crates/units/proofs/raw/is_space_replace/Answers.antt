@@ -1,28 +1,18 @@
 -- `units::raw::is_space_replace` meets its contract: by the step.
+use mathlib.Core.Path.{sym, ap, ◌∙◌}
+use Rattle.utf8.specs.Lists.{same}
 use Rattle.units.specs.Kinds.{is_space_replace}
 use Rattle.model.specs.Mark.{mark, space}
 use Rattle.units.proofs.raw.is_space_replace.Goals as goal
 
-pub returns-then-not-equal : goal.returns-then-not-equal
+pub returns-then-eq : goal.returns-then-eq
 unfolding is_space_replace mark space
-returns-then-not-equal c =
-    rw c.in-Replace.is
-    (rw (← c.string_of.ensures, ← c.equal.ensures, c.if-not-equal.true))
+returns-then-eq c =
+    let first = sym (c.if-eq.ensures ∙ ap (same c.string_of.result.now) c.as_slice.ensures) in
+    rw (c.in-Replace.is, ← c.string_of.ensures, first, ← c.string_of-then-eq.ensures) (c.eq-then-eq.ensures ∙ ap (same c.string_of-then-eq.result.now) c.as_slice-then-eq.ensures)
 
-pub returns-in-Prepend : goal.returns-in-Prepend
+pub returns-else-eq : goal.returns-else-eq
 unfolding is_space_replace mark space
-returns-in-Prepend c = rw c.in-Prepend.is
-
-pub returns-else-not-equal : goal.returns-else-not-equal
-unfolding is_space_replace mark space
-returns-else-not-equal c =
-    rw c.in-Replace.is
-    (rw (← c.string_of.ensures, ← c.equal.ensures, c.if-not-equal.false, ← c.string_of-in-Replace.ensures) c.equal-in-Replace.ensures)
-
-pub returns-in-CollapseSpaces : goal.returns-in-CollapseSpaces
-unfolding is_space_replace mark space
-returns-in-CollapseSpaces c = rw c.in-CollapseSpaces.is
-
-pub returns-in-Strip : goal.returns-in-Strip
-unfolding is_space_replace mark space
-returns-in-Strip c = rw c.in-Strip.is
+returns-else-eq c =
+    let first = sym (c.if-eq.ensures ∙ ap (same c.string_of.result.now) c.as_slice.ensures) in
+    rw (c.in-Replace.is, ← c.string_of.ensures, first, c.if-eq.false)

@@ -1,52 +1,37 @@
 -- `units::raw::path_of` meets its contract: by how many steps there are, and the tests that led to each answer.
+use Rattle.std.specs.Prelude.{Some}
 use mathlib.Core.Path.{sym, ap, ◌∙◌}
 use mathlib.Core.Bool.{true, false}
-use borrow.Author.Rules.{rules}
-use Rattle.units.proofs.RawLaws.{path_none, path_one_by, path_no_prepend, path_no_replace, path_both, path_more}
-use Rattle.units.specs.declared.RawPath.TheVariants as raw
+use native.Mathlib.Omega.{arith}
+use Rattle.units.proofs.RawLaws.{path_one_by, path_no_prepend, path_no_replace, path_both}
 use Rattle.units.proofs.raw.path_of.Goals as goal
 
-pub returns-then-is_present : goal.returns-then-is_present
-returns-then-is_present c =
-    let st = c.args in
-    sym (path_none st.step_bytes.now st.step_count st.metaspace st.steps c.if-step_count-eq0.true ∙ rw (← c.is_present.ensures, c.if-is_present.true, ← c.prepend_of.ensures))
+pub returns-in-len1 : goal.returns-in-len1
+returns-in-len1 c =
+    let a = c.args in
+    ap Some c.prepend_of-in-len1.ensures ∙ sym (path_one_by a.step_bytes.now a.metaspace a.steps.now _ true (omega arith) c.if-is_space_replace.ensures)
 
-pub returns-then-step_count-eq0 : goal.returns-then-step_count-eq0
-returns-then-step_count-eq0 c =
-    let st = c.args in
-    sym (path_none st.step_bytes.now st.step_count st.metaspace st.steps c.if-step_count-eq0.true ∙ rw (← c.is_present.ensures, c.if-is_present.false))
+pub returns-in_default-2 : goal.returns-in_default-2
+returns-in_default-2 c =
+    let a = c.args in
+    sym (path_one_by a.step_bytes.now a.metaspace a.steps.now _ false (omega arith) c.if-is_space_replace.ensures)
 
-pub returns-then-is_space_replace : goal.returns-then-is_space_replace
-returns-then-is_space_replace c =
-    let st = c.args in
-    ap raw.Present c.prepend_of-then-is_space_replace.ensures ∙ sym (path_one_by st.step_bytes.now st.step_count st.metaspace st.steps _ true c.if-step_count-eq1.true (search rules) (sym c.is_space_replace.ensures ∙ c.if-is_space_replace.true))
+pub returns-in-len2 : goal.returns-in-len2
+returns-in-len2 c =
+    let a = c.args in
+    sym (path_both a.step_bytes.now a.metaspace a.steps.now _ (omega arith) false c.if-is_prepend_mark.ensures c.if-is_space_replace-2.ensures c.if-not-metaspace_splits.ensures)
 
-pub returns-then-step_count-eq1 : goal.returns-then-step_count-eq1
-returns-then-step_count-eq1 c =
-    let st = c.args in
-    sym (path_one_by st.step_bytes.now st.step_count st.metaspace st.steps _ false c.if-step_count-eq1.true (search rules) (sym c.is_space_replace.ensures ∙ c.if-is_space_replace.false))
+pub returns-in_default-3 : goal.returns-in_default-3
+returns-in_default-3 c =
+    let a = c.args in
+    sym (path_both a.step_bytes.now a.metaspace a.steps.now _ (omega arith) true c.if-is_prepend_mark.ensures c.if-is_space_replace-2.ensures c.if-not-metaspace_splits.ensures)
 
-pub returns-then-not-is_prepend_mark : goal.returns-then-not-is_prepend_mark
-returns-then-not-is_prepend_mark c =
-    let st = c.args in
-    sym (path_no_prepend st.step_bytes.now st.step_count st.metaspace st.steps _ c.if-step_count-eq2.true (search rules) (sym c.is_prepend_mark.ensures ∙ c.if-not-is_prepend_mark.true))
+pub returns-in_default-4 : goal.returns-in_default-4
+returns-in_default-4 c =
+    let a = c.args in
+    sym (path_no_replace a.step_bytes.now a.metaspace a.steps.now _ (omega arith) c.if-is_prepend_mark.ensures c.if-is_space_replace-2.ensures)
 
-pub returns-then-not-is_space_replace : goal.returns-then-not-is_space_replace
-returns-then-not-is_space_replace c =
-    let st = c.args in
-    sym (path_no_replace st.step_bytes.now st.step_count st.metaspace st.steps _ c.if-step_count-eq2.true (search rules) (sym c.is_prepend_mark.ensures ∙ c.if-not-is_prepend_mark.false) (sym c.is_space_replace-then-step_count-eq2.ensures ∙ c.if-not-is_space_replace.true))
-
-pub returns-then-metaspace_splits : goal.returns-then-metaspace_splits
-returns-then-metaspace_splits c =
-    let st = c.args in
-    sym (path_both st.step_bytes.now st.step_count st.metaspace st.steps _ c.if-step_count-eq2.true (search rules) true (sym c.is_prepend_mark.ensures ∙ c.if-not-is_prepend_mark.false) (sym c.is_space_replace-then-step_count-eq2.ensures ∙ c.if-not-is_space_replace.false) (sym c.metaspace_splits.ensures ∙ c.if-metaspace_splits.true))
-
-pub returns-then-step_count-eq2 : goal.returns-then-step_count-eq2
-returns-then-step_count-eq2 c =
-    let st = c.args in
-    sym (path_both st.step_bytes.now st.step_count st.metaspace st.steps _ c.if-step_count-eq2.true (search rules) false (sym c.is_prepend_mark.ensures ∙ c.if-not-is_prepend_mark.false) (sym c.is_space_replace-then-step_count-eq2.ensures ∙ c.if-not-is_space_replace.false) (sym c.metaspace_splits.ensures ∙ c.if-metaspace_splits.false))
-
-pub returns : goal.returns
-returns c =
-    let st = c.args in
-    sym (path_more st.step_bytes.now st.step_count st.metaspace st.steps (search rules) (search rules))
+pub returns-in_default-5 : goal.returns-in_default-5
+returns-in_default-5 c =
+    let a = c.args in
+    sym (path_no_prepend a.step_bytes.now a.metaspace a.steps.now _ (omega arith) c.if-is_prepend_mark.ensures)

@@ -1,16 +1,12 @@
-use Prim.Native.Nat.{ℕ, ◌≤◌, ◌-◌, ◌+◌}
+use Prim.Native.Nat.{ℕ, ◌≤◌, ◌+◌}
 use mathlib.Core.Path.{◌≡◌, sym, ap, ◌∙◌}
 use native.Mathlib.Omega.{arith}
-use borrow.Author.Tests.{ltb-true, leb-true}
 use mathlib.Core.List.{List}
-use lib.Dec.{ltb, leb}
-use lib.ListN.{length, take, drop, length-drop}
+use lib.ListN.{length, drop, length-drop}
 use lib.Seq.{drop-drop}
 use Rattle.utf8.specs.Chars.{char_width, longest_valid_prefix}
 use Rattle.utf8.proofs.Lists.{part_to_end}
 use Rattle.utf8.proofs.Characters.{char_width-le-length, char_ends}
-use Rattle.utf8.specs.inner.Plain.{largest}
-use Rattle.utf8.proofs.Tests.{and_left, and_right}
 use Rattle.utf8.proofs.Valid.{prefix_stops, prefix_next}
 use Rattle.utf8.proofs.Plain.{plain_prefix}
 use Rattle.utf8.proofs.chars.valid_prefix.Goals as goal
@@ -37,20 +33,8 @@ eight : (t : Then-are_eight_plain)
 eight t =
     let s = t.args.s.now in
     let i = t.loop-i.i in
-    let plain = ltb (largest (take 8 (drop i s))) 0x80 in
-    let both = sym t.are_eight_plain.ensures ∙ t.if-are_eight_plain.true in
-    let room = leb-true 8 (length s - i) (and_left (leb 8 (length s - i)) plain both) in
-    let low = ltb-true (largest (take 8 (drop i s))) 0x80 (and_right (leb 8 (length s - i)) plain both) in
-    (omega arith, plain_prefix 8 (drop i s) (omega (arith, length-drop i s)) low ∙ ap (λ (l : List ℕ). 8 + length (longest_valid_prefix l)) (drop-drop 8 i s))
-
-pub loop-i-init : goal.loop-i-init
-loop-i-init c = omega arith
-
-pub overflow_add-i : goal.overflow_add-i
-overflow_add-i c = omega (arith, (eight c).0)
-
-pub loop-i-smaller-then-are_eight_plain : goal.loop-i-smaller-then-are_eight_plain
-loop-i-smaller-then-are_eight_plain c = omega (arith, (eight c).0)
+    let plain = rw (part_to_end s i) at (t.are_eight_plain.ensures.0 t.if-are_eight_plain.true) in
+    (omega (arith, plain.0, length-drop i s), plain_prefix 8 (drop i s) plain.0 plain.1 ∙ ap (λ (l : List ℕ). 8 + length (longest_valid_prefix l)) (drop-drop 8 i s))
 
 pub loop-i-preserved-then-are_eight_plain : goal.loop-i-preserved-then-are_eight_plain
 loop-i-preserved-then-are_eight_plain c = ((eight c).0, omega (arith, (eight c).1))
@@ -62,9 +46,6 @@ returns-then-w-eq0 c =
 
 pub overflow_add-i-else-are_eight_plain : goal.overflow_add-i-else-are_eight_plain
 overflow_add-i-else-are_eight_plain c = omega (arith, ends (goal.at.overflow_add-i-else-are_eight_plain c).After-char_width-w)
-
-pub loop-i-smaller : goal.loop-i-smaller
-loop-i-smaller c = omega (arith, ends (goal.at.loop-i-smaller c).After-char_width-w)
 
 pub loop-i-preserved : goal.loop-i-preserved
 loop-i-preserved c =

@@ -1,10 +1,9 @@
 use Prim.Native.Nat.{ℕ, ◌≤◌}
-use mathlib.Core.Path.{sym, ap, ◌∙◌}
+use mathlib.Core.Path.{sym, ◌∙◌}
 use mathlib.Core.List.{List}
 use native.Mathlib.Omega.{arith}
 use lib.ListN.{take}
-use lib.Seq.{length-take-le, take-length}
-use Rattle.utf8.specs.WhiteSpace.{trim_end}
+use lib.Seq.{length-take-le}
 use Rattle.utf8.proofs.Trim.{white_end-le, trim_end_stops, trim_end-next, white_begins}
 use Rattle.utf8.proofs.white_space.trim_end.Goals as goal
 use Rattle.utf8.proofs.white_space.trim_end.Goals.{After-white_end-w}
@@ -19,17 +18,6 @@ module _ (c : After-white_end-w) where
   begins : c.white_end-w.result ≤ place
   begins = omega (arith, c.white_end-w.ensures, white_begins text place c.loop-end.invariant.0)
 
-pub loop-end-init : goal.loop-end-init
-loop-end-init c = (omega arith, ap trim_end (sym (take-length c.args.s.now)))
-
-pub slice_bounds-white_end-end : goal.slice_bounds-white_end-end
-slice_bounds-white_end-end c =
-    sym (length-take-le c.loop-end.end c.args.s.now c.loop-end.invariant.0)
-
-pub slice_bounds-result-end : goal.slice_bounds-result-end
-slice_bounds-result-end c =
-    sym (length-take-le c.loop-end.end c.args.s.now c.loop-end.invariant.0)
-
 pub returns-then-w-eq0 : goal.returns-then-w-eq0
 returns-then-w-eq0 c =
     let b = (goal.at.returns-then-w-eq0 c).After-white_end-w in
@@ -38,19 +26,12 @@ returns-then-w-eq0 c =
 pub overflow_sub-end : goal.overflow_sub-end
 overflow_sub-end c = begins (goal.at.overflow_sub-end c).After-white_end-w
 
-pub loop-end-smaller : goal.loop-end-smaller
-loop-end-smaller c = omega (arith, begins (goal.at.loop-end-smaller c).After-white_end-w)
-
 pub loop-end-preserved : goal.loop-end-preserved
 loop-end-preserved c =
     let b = (goal.at.loop-end-preserved c).After-white_end-w in
     let w = b.white_end-w.ensures in
     let inv = b.loop-end.invariant in
     (omega arith, inv.1 ∙ rw w (trim_end-next (text b) (place b) inv.0 (omega arith)))
-
-pub slice_bounds-result-end-2 : goal.slice_bounds-result-end-2
-slice_bounds-result-end-2 c =
-    sym (length-take-le c.loop-end.end c.args.s.now c.loop-end.invariant.0)
 
 pub returns : goal.returns
 returns c =

@@ -1,5 +1,5 @@
 use Prim.Native.Nat.{ℕ, ◌+◌, ◌≤◌}
-use mathlib.Core.Path.{◌≡◌, refl, sym, ap, ◌∙◌}
+use mathlib.Core.Path.{◌≡◌, sym, ap, ◌∙◌}
 use mathlib.Core.List.{List}
 use native.Mathlib.Omega.{arith}
 use lib.ListN.{length, drop, length-drop}
@@ -24,9 +24,6 @@ module _ (c : After-white_width-w) where
   ends : place + c.white_width-w.result ≤ length text
   ends = omega (arith, width, white_ends text place (omega arith))
 
-pub loop-i-init : goal.loop-i-init
-loop-i-init c = (omega arith, refl)
-
 pub returns-then-w-eq0 : goal.returns-then-w-eq0
 returns-then-w-eq0 c =
     let b = (goal.at.returns-then-w-eq0 c).After-white_width-w in
@@ -35,9 +32,6 @@ returns-then-w-eq0 c =
 
 pub overflow_add-i : goal.overflow_add-i
 overflow_add-i c = omega (arith, ends (goal.at.overflow_add-i c).After-white_width-w)
-
-pub loop-i-smaller : goal.loop-i-smaller
-loop-i-smaller c = omega (arith, ends (goal.at.loop-i-smaller c).After-white_width-w)
 
 pub loop-i-preserved : goal.loop-i-preserved
 loop-i-preserved c =

@@ -1,27 +1,17 @@
-use mathlib.Core.Path.{refl, sym, ◌∙◌}
-use borrow.Author.Rules.{rules}
-use Rattle.utf8.proofs.Places.{any-numbered_found, any-numbered-next, any-numbered-ended}
+use Rattle.std.proofs.Common.{ℕ, List, ap, ◌∙◌, rules, tests}
+use Rattle.std.proofs.lemmas.Iterator.{YieldsList-from_slice}
+use Rattle.std.proofs.lemmas.Iterator.Consumers.{YieldsList-from_enumerate}
+use Rattle.std.proofs.lemmas.Iterator.Search.{any_from_yields_List}
+use Rattle.utf8.specs.Lists.{any}
+use Rattle.utf8.proofs.Chains.{list_any-is, enumerate-numbered}
 use Rattle.varitmol.specs.Numbers.{wrong_step, wrong_steps}
 use Rattle.varitmol.proofs.numbers.wrong_steps.Goals as goal
 
-pub loop-i-init : goal.loop-i-init
-unfolding wrong_steps
-loop-i-init c = (search rules, refl)
-
-pub returns-then-wrong_step : goal.returns-then-wrong_step
-returns-then-wrong_step c =
-    let l = c.loop-i in
-    let st = c.args in
-    sym (l.invariant.1 ∙ any-numbered_found (wrong_step st.spans.now) st.kinds.now l.i 0 (search rules) (sym c.wrong_step.ensures ∙ c.if-wrong_step.true))
-
-pub loop-i-preserved : goal.loop-i-preserved
-loop-i-preserved c =
-    let l = c.loop-i in
-    let st = c.args in
-    (search rules, l.invariant.1 ∙ any-numbered-next (wrong_step st.spans.now) st.kinds.now l.i 0 (search rules) (sym c.wrong_step.ensures ∙ c.if-wrong_step.false))
-
 pub returns : goal.returns
+unfolding wrong_steps
 returns c =
-    let l = c.loop-i in
-    let st = c.args in
-    sym (l.invariant.1 ∙ any-numbered-ended (wrong_step st.spans.now) st.kinds.now l.i 0 (search rules))
+    let kinds : List ℕ = c.args.kinds.now in
+    let wrong = wrong_step c.args.spans.now in
+    any_from_yields_List wrong _ _ c.any.result c.any.ensures.ran (YieldsList-from_enumerate (YieldsList-from_slice kinds cc) cc) (λ x b q k. search (rules, tests))
+    ∙ list_any-is wrong _
+    ∙ ap (any wrong) (enumerate-numbered kinds)

@@ -1,0 +1,15 @@
+// Outputs put into a buffer.
+ghost use Rattle.std.specs.Prelude.{◌≡◌, ◌++◌};
+ghost use Rattle.normalise.specs.inner.Fit.{Put, put};
+
+// `lead` and `text` behind it at the front of `out`, where there is room for both.
+pub fn put(lead: &[u8], text: &[u8], room: usize, out: &mut [u8]) -> Option<usize>
+    ensures { ◌≡◌ {A = Put} (record { length = result; out = out.new }) (put (lead.now ++ text.now) room out.old) }
+{
+    let space = room.min(out.len());
+    let left = space.checked_sub(lead.len())?.checked_sub(text.len())?;
+    let n = space - left;
+    out[..lead.len()].copy_from_slice(lead);
+    out[lead.len()..n].copy_from_slice(text);
+    Some(n)
+}

@@ -1,7 +1,0 @@
--- `replay::flag_buffer` meets its contract. The list is not computed: it is too long.
-use Rattle.std.proofs.Common.{sym, Bool, false}
-use Rattle.std.proofs.lemmas.List.{length-replicate}
-use Rattle.replay.proofs.flag_buffer.Goals as goal
-
-pub returns : goal.returns
-returns c = sym (length-replicate {0} {A = Bool} 65536 false)
