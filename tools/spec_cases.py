@@ -31,13 +31,12 @@ NONE = 4294967295
 CASES_A_CRATE = 400
 
 HEADER = """\
-use Rattle.std.specs.Prelude.{ℕ, ◌/◌, ◌%◌, ◌^◌, ◌≡◌, refl, Bool, true, false, List, [], ◌∷◌, ◌++◌, eqb, length, get_or, take, drop, replicate}
+use Rattle.std.specs.Prelude.{ℕ, ◌/◌, ◌%◌, ◌^◌, ◌≡◌, refl, Bool, true, false, List, [], ◌∷◌, ◌++◌, eqb, length, get_or, take, drop, replicate, None, Some}
 use Rattle.utf8.specs.Lists.{same}
 use Rattle.model.specs.Model.{Model, TokenList}
 use Rattle.model.specs.declared.Step.{Step}
 use Rattle.model.specs.declared.Step.TheVariants.{Prepend, Replace, CollapseSpaces, Strip}
 use Rattle.model.specs.declared.Metaspace.{Metaspace}
-use Rattle.model.specs.declared.Metaspace.TheVariants.{Absent, Present}
 use Rattle.model.specs.declared.PrependScheme.TheVariants as scheme
 use Rattle.theorems.specs.Cases.{Call, check, normalise, encode, fragments, decode, prepare, Lent, Case, Left, left, same_answer, agrees}
 
@@ -114,10 +113,10 @@ def model_text(m):
     if isinstance(fallback, dict):
         fallback = [fallback.get(str(b), NONE) for b in range(256)]
     steps = [step(s) for s in m["steps"]] + ["(Strip false false)"] * (16 - len(m["steps"]))
-    metaspace = "Absent"
+    metaspace = "None"
     if m["metaspace"]:
         name, split = m["metaspace"]
-        metaspace = f"Present scheme.{name.capitalize()} {flag(split)}"
+        metaspace = f"Some (record {{ prepend = scheme.{name.capitalize()}; split = {flag(split)} }})"
     columns = {
         "piece_bytes": octets(m["piece_bytes"]), "piece_offsets": runs(m["piece_offsets"]), "lookup": runs(m["lookup"]),
         "fallback": runs(fallback), "left": runs(m["left"]), "right": runs(m["right"]), "result": runs(m["result"]),

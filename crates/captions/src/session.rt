@@ -2,13 +2,12 @@
 ghost use Rattle.std.specs.Prelude.{◌≡◌};
 ghost use Rattle.model.specs.Check.{check_number};
 ghost use Rattle.model.specs.Model.{columns};
-ghost use Rattle.captions.specs.Ready.{Ready};
 
 use crate::job::Job;
 use crate::lines::{Line, Lines};
 use crate::tally::Tally;
 use crate::tell::Reason;
-use crate::work::{Buffers, work};
+use crate::work::{Buffers, Checked, work};
 use crate::{report, tell};
 use model::Model;
 use prepare::Prepared;
@@ -19,9 +18,7 @@ fn refuse(job: Job<'_>, reason: Reason, tally: &mut Tally) {
 }
 
 // A proved loop has to end, and nothing says that what is read does: the turns are more than any run takes.
-fn all_lines(prepared: &Prepared<'_>, job: Job<'_>)
-    requires { Ready (columns prepared.now.model.now) prepared.now.adjacency.now prepared.now.index.now }
-{
+fn all_lines(model: &Checked<'_>, job: Job<'_>) {
     let mut lent = Buffers::new();
     let mut lines = Lines::new();
     let mut tally = Tally::default();
@@ -35,7 +32,7 @@ fn all_lines(prepared: &Prepared<'_>, job: Job<'_>)
             }
             Line::Whole(text) => {
                 tally.count_line(job.errors, text.len());
-                if let Err(reason) = work(prepared, job, text, &mut lent, &mut tally) {
+                if let Err(reason) = work(model, job, text, &mut lent, &mut tally) {
                     refuse(job, reason, &mut tally);
                 }
             }
@@ -62,7 +59,12 @@ fn run_accepted(model: &Model<'_>, job: Job<'_>)
         adjacency: &adjacency,
         index: &index,
     };
-    all_lines(&prepared, job);
+    all_lines(
+        &Checked {
+            prepared: &prepared,
+        },
+        job,
+    );
 }
 
 pub(crate) fn run(model: &Model<'_>, job: Job<'_>) {

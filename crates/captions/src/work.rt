@@ -9,12 +9,20 @@ use crate::options::Command;
 use crate::report;
 use crate::tally::Tally;
 use crate::tell::Reason;
+use model::tables::part;
 use prepare::Prepared;
 
 // Ids are at most twice as many as a line's bytes, and two more; normalised text is at most three times as long, and three bytes more.
 const IDS: usize = 2 * LONGEST + 2;
 
 const BYTES: usize = 3 * LONGEST + 3;
+
+// A model that the check accepts, with the two rows that are derived of it.
+#[derive(Clone, Copy)]
+pub(crate) struct Checked<'a> {
+    pub prepared: &'a Prepared<'a>,
+    ghost ready: { Ready (columns prepared.now.model.now) prepared.now.adjacency.now prepared.now.index.now },
+}
 
 // The buffers that every line is lent.
 #[derive(Drop)]
@@ -36,40 +44,29 @@ impl Buffers {
     }
 }
 
-fn front<T>(items: &[T], count: usize) -> &[T] {
-    match items.get(..count) {
-        Some(front) => front,
-        None => items,
-    }
-}
-
 fn cut(
-    prepared: &Prepared<'_>,
+    model: &Checked<'_>,
     job: Job<'_>,
     text: &[u8],
     ranges: &mut [u32],
     tally: &mut Tally,
-) -> Result<(), Reason>
-    requires { Ready (columns prepared.now.model.now) prepared.now.adjacency.now prepared.now.index.now }
-{
-    let counts = fragments::fragments_prepared(prepared, text, 0, ranges)?;
+) -> Result<(), Reason> {
+    let counts = fragments::fragments_prepared(model.prepared, text, 0, ranges)?;
     tally.count(counts);
-    tally.note(report::cut(job, tally.lines, text, front(ranges, counts.written)));
+    tally.note(report::cut(job, tally.lines, text, part(ranges, 0, counts.written)));
     Ok(())
 }
 
 // The ids stay in the cells; answers how many there are.
 fn encode(
-    prepared: &Prepared<'_>,
+    model: &Checked<'_>,
     job: Job<'_>,
     text: &[u8],
     lent: &mut Buffers,
     tally: &mut Tally,
-) -> Result<usize, Reason>
-    requires { Ready (columns prepared.now.model.now) prepared.now.adjacency.now prepared.now.index.now }
-{
+) -> Result<usize, Reason> {
     let counts = encode::encode_prepared(
-        prepared,
+        model.prepared,
         text,
         false,
         &mut lent.cells,
@@ -77,29 +74,34 @@ fn encode(
         &mut lent.b,
     )?;
     tally.count(counts);
-    let ids = front(&lent.cells, counts.written);
-    tally.note(report::encoded(job, tally.lines, text, &prepared.model.pieces, counts, ids));
+    let ids = part(&lent.cells, 0, counts.written);
+    tally.note(report::encoded(
+        job,
+        tally.lines,
+        text,
+        &model.prepared.model.pieces,
+        counts,
+        ids,
+    ));
     Ok(counts.written)
 }
 
 // The first `count` cells are ids.
 fn decode(
-    prepared: &Prepared<'_>,
+    model: &Checked<'_>,
     job: Job<'_>,
     text: &[u8],
     count: usize,
     lent: &mut Buffers,
     tally: &mut Tally,
-) -> Result<(), Reason>
-    requires { Ready (columns prepared.now.model.now) prepared.now.adjacency.now prepared.now.index.now }
-{
+) -> Result<(), Reason> {
     let counts = decode::decode_checked(
-        prepared.model,
-        front(&lent.cells, count),
+        model.prepared.model,
+        part(&lent.cells, 0, count),
         &mut lent.bytes,
     )?;
     tally.count(counts);
-    let back = front(&lent.bytes, counts.written);
+    let back = part(&lent.bytes, 0, counts.written);
     if job.command != Command::Decode && back != text {
         tally.count_change();
     }
@@ -108,16 +110,14 @@ fn decode(
 }
 
 fn normalise(
-    prepared: &Prepared<'_>,
+    model: &Checked<'_>,
     job: Job<'_>,
     text: &[u8],
     lent: &mut Buffers,
     tally: &mut Tally,
-) -> Result<(), Reason>
-    requires { Ready (columns prepared.now.model.now) prepared.now.adjacency.now prepared.now.index.now }
-{
+) -> Result<(), Reason> {
     let counts = normalise::normalise_checked(
-        prepared.model,
+        model.prepared.model,
         text,
         true,
         &mut lent.bytes,
@@ -125,39 +125,42 @@ fn normalise(
         &mut lent.b,
     )?;
     tally.count(counts);
-    tally.note(report::written(job, tally.lines, counts, front(&lent.bytes, counts.written)));
+    tally.note(report::written(
+        job,
+        tally.lines,
+        counts,
+        part(&lent.bytes, 0, counts.written),
+    ));
     Ok(())
 }
 
 // Does with a line what the command says. What is told before a call refuses stays told.
 pub(crate) fn work(
-    prepared: &Prepared<'_>,
+    model: &Checked<'_>,
     job: Job<'_>,
     text: &[u8],
     lent: &mut Buffers,
     tally: &mut Tally,
-) -> Result<(), Reason>
-    requires { Ready (columns prepared.now.model.now) prepared.now.adjacency.now prepared.now.index.now }
-{
+) -> Result<(), Reason> {
     match job.command {
         Command::Show => {
-            cut(prepared, job, text, &mut lent.cells, tally)?;
-            let count = encode(prepared, job, text, lent, tally)?;
-            decode(prepared, job, text, count, lent, tally)
+            cut(model, job, text, &mut lent.cells, tally)?;
+            let count = encode(model, job, text, lent, tally)?;
+            decode(model, job, text, count, lent, tally)
         }
         Command::Check => {
-            let count = encode(prepared, job, text, lent, tally)?;
-            decode(prepared, job, text, count, lent, tally)
+            let count = encode(model, job, text, lent, tally)?;
+            decode(model, job, text, count, lent, tally)
         }
         Command::Encode => {
-            encode(prepared, job, text, lent, tally)?;
+            encode(model, job, text, lent, tally)?;
             Ok(())
         }
         Command::Decode => {
             let count = parse(text, &mut lent.cells)?;
-            decode(prepared, job, text, count, lent, tally)
+            decode(model, job, text, count, lent, tally)
         }
-        Command::Fragments => cut(prepared, job, text, &mut lent.cells, tally),
-        Command::Normalise => normalise(prepared, job, text, lent, tally),
+        Command::Fragments => cut(model, job, text, &mut lent.cells, tally),
+        Command::Normalise => normalise(model, job, text, lent, tally),
     }
 }

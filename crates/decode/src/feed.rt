@@ -9,7 +9,7 @@ use crate::{Decoder, Held, Progress};
 use utf8::chars::is_within;
 
 impl Held {
-    pub fn len(self) -> usize
+    pub(crate) fn len(self) -> usize
         ensures { result ≡ length (bytes_of self) }
     {
         match self {
@@ -58,7 +58,7 @@ impl Held {
 
 impl Decoder {
     #[tactic(auto, unfolding(crate::specs::inner::Feeding::holding))]
-    pub fn new(begun: bool) -> Decoder
+    pub(crate) fn new(begun: bool) -> Decoder
         ensures { result ≡ holding [] begun }
     {
         Decoder {
@@ -69,7 +69,7 @@ impl Decoder {
 
     // Whether a whole character can be put out as it is: nothing is held, and the first one is settled.
     #[tactic(auto, unfolding(crate::specs::inner::Feeding::is_idle))]
-    pub fn is_idle(self) -> bool
+    pub(crate) fn is_idle(self) -> bool
         ensures { result ≡ is_idle self }
     {
         self.held.is_empty() && self.begun
@@ -98,7 +98,7 @@ impl Decoder {
         }
     }
 
-    pub fn feed(self, b: u8, out: &mut [u8], at: usize) -> Progress
+    pub(crate) fn feed(self, b: u8, out: &mut [u8], at: usize) -> Progress
         requires sound { Sound self }
         requires at_bound { at + 13 ≤ largest }
         ensures { ◌≡◌ {A = Fed} (record { progress = result; out = out.new }) (fed self (b ∷ []) at out.old) }

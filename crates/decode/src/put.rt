@@ -65,7 +65,7 @@ fn put_alone(begun: bool, b: u8, out: &mut [u8], at: usize) -> usize
 
 impl Decoder {
     // The character that a byte makes of those held, as it is shown.
-    pub fn put_settled(self, b: u8, out: &mut [u8], at: usize) -> usize
+    pub(crate) fn put_settled(self, b: u8, out: &mut [u8], at: usize) -> usize
         requires sound { Sound self }
         requires unbroken { is_broken (held_by self) b ≡ false }
         requires closed_after { is_open (held_by self ++ (b ∷ [])) ≡ false }

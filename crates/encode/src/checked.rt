@@ -22,7 +22,8 @@ pub(crate) struct Checked<'a> {
 }
 
 impl Checked<'_> {
-    // What comes next in the walk through the sections of a text.
+    // What comes next in the walk through the sections of a text. Each list has a row of beginnings and a kind of search of its own, so this and
+    // `next_part` differ in three of five arguments.
     pub fn next_section(&self, text: &[u8], cursor: Cursor) -> Next
         ensures { result ≡ next_item (tokens_of self.now.prepared.now.model.now.first) (slice first_tokens_at second_tokens_at self.now.prepared.now.index.now) false text.now cursor }
     {

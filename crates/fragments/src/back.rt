@@ -19,7 +19,7 @@ impl Places<'_> {
         }
     }
 
-    // Where the block of a token with rstrip ends, if it reaches the white space that begins at `stop`.
+    // Where the block of a token with rstrip ends, if it reaches the white space that begins at `stop`, and else 0, the least of a maximum.
     fn strip_far(&self, stop: usize, end: usize) -> usize
         ensures { result ≡ strip_far self.now.text.now stop end }
     {

@@ -1,6 +1,6 @@
 // Where tokens that block end.
 ghost use Rattle.std.specs.Prelude.{◌≡◌, true, ◌||◌, ℕ, ◌+◌, ◌≤◌, eqb, ltb, length};
-ghost use Rattle.utf8.specs.Lists.{any};
+ghost use Rattle.utf8.specs.Lists.{any, starts_with};
 ghost use Rattle.model.specs.Model.{tokens_of};
 ghost use Rattle.fragments.specs.Safe.{makes_blocks};
 ghost use Rattle.fragments.specs.inner.Reach.{end_of, end_at, end_between};
@@ -24,6 +24,16 @@ fn holds_space(content: &[u8]) -> bool
     content.iter().any(|b| may_cut(*b))
 }
 
+// Whether the text begins with a content. Most contents differ from it in their first byte, and to compare two slices is a call.
+fn begins_with(text: &[u8], content: &[u8]) -> bool
+    ensures { result ≡ starts_with content.now text.now }
+{
+    if !content.is_empty() && !text.is_empty() && content[0] != text[0] {
+        return false;
+    }
+    starts_with(text, content)
+}
+
 // Whether a token at `s` can end beyond `far`.
 fn may_reach(s: usize, longest: usize, far: usize) -> bool
     ensures { result ≡ ltb far (s + longest) }
@@ -39,7 +49,8 @@ impl Places<'_> {
         lstrip || rstrip || self.unguarded || holds_space(content)
     }
 
-    // Where the token of `row` ends if it blocks and stands at `s` and its rstrip is `strip`, and else 0.
+    // Where the token of `row` ends if it blocks and stands at `s` and its rstrip is `strip`, and else 0, as the definition has it:
+    // the least of a maximum.
     fn end_of(&self, strip: bool, s: usize, row: usize) -> usize
         ensures { result ≡ end_of self.now.unguarded (tokens_of self.now.tokens) self.now.text.now strip s row }
     {
@@ -48,7 +59,7 @@ impl Places<'_> {
             return 0;
         }
         let content = self.tokens.contents.get(row);
-        let stands = starts_with(part(self.text, s, self.text.len()), content);
+        let stands = begins_with(part(self.text, s, self.text.len()), content);
         if stands && self.is_blocking(content, flag_at(self.tokens.lstrip, row), right) {
             s + content.len()
         } else {

@@ -192,7 +192,8 @@ impl RowIndex<'_> {
         find_row_between(&self.rows, l, r, start, end)
     }
 
-    // The place of the row of the pair `l`, `r`, of which the first pair table tells nothing.
+    // The place of the row of the pair `l`, `r`, of which the first pair table tells nothing. `find` differs from it in the word and in what is
+    // asked next: a closure for that would be longer than what it spares.
     fn find_beyond(&self, l: u32, r: u32) -> Option<usize>
         ensures { result ≡ row_beyond self.now.rows.left.now self.now.rows.right.now self.now.words.now self.now.shift l r }
     {

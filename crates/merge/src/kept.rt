@@ -11,7 +11,7 @@ use model::tables::number_at;
 // A row and its rank are kept as one number, for so many rows.
 pub(crate) const ROW_SPAN: usize = 2147483648;
 
-// More than any such number.
+// More than any such number: of no row. The rows of a unit's pairs are kept as numbers, so that the lowest is found by comparing them alone.
 const NO_KEY: usize = 9223372036854775808;
 
 // How many ids units have for which there is room.

@@ -8,7 +8,7 @@ use crate::kept::{LONG, MIDDLE, ROW_SPAN, SHORT, merge_within};
 use index::RowIndex;
 use model::tables::number_at;
 
-// More than any rank.
+// More than any rank: of no row, so that a pair without one loses every comparison.
 pub(crate) const NO_RANK: usize = 4294967296;
 
 // The next merge among adjacent ids: the lowest rank, the leftmost of equals.
@@ -94,6 +94,7 @@ fn merge_longer(rows: &RowIndex<'_>, ids: &mut [u32], count: usize) -> usize
 
 // Merges the first `count` ids in place until no pair has a row, and answers how many are left. Short units, which most are, have a way of
 // their own, without the stack that longer ones take.
+// `count` stands beside the buffer, since the contract holds of one past its end too.
 pub fn bpe_merge_symbols_ranked(rows: &RowIndex<'_>, ids: &mut [u32], count: usize) -> usize
     ensures { ◌≡◌ {A = Merged} (record { count = result; ids = ids.new }) (merged_front (row_by rows.now) count ids.old) }
 {

@@ -31,7 +31,8 @@ fn spell_bytes(fallback: &[u32], char: &[u8], out: &mut [u32]) -> Symbols
 }
 
 impl Speller<'_> {
-    // The id of a byte that is a character by itself, where it has a piece; a raw space is the mark.
+    // The id of a byte that is a character by itself, where it has a piece; a raw space is the mark. The number of none is the index's own: a test of
+    // it is all that most bytes of a text cost.
     fn own_byte(&self, raw: bool, b: u8) -> u32
         ensures { result ≡ byte_own self.now.index.words.now self.now.index.mark_id raw b }
     {

@@ -1,20 +1,18 @@
 -- What the tests of the model check give, from what the code has compared.
 use Rattle.std.specs.Prelude.{None, Some}
-use mathlib.Core.Path.{◌≡◌, refl, sym, ◌∙◌}
-use mathlib.Core.Bool.{Bool, true, false, ◌||◌, and-true, and-false}
+use mathlib.Core.Path.{◌≡◌, refl, sym}
+use mathlib.Core.Bool.{Bool, true, false, and-true, and-false}
 use mathlib.Core.List.{List, [], ◌∷◌}
-use Prim.Native.Nat.{ℕ, suc, ◌+◌, ◌-◌, ◌≤◌, ◌<◌}
+use Prim.Native.Nat.{ℕ, ◌+◌, ◌-◌, ◌≤◌, ◌<◌}
 use native.Mathlib.Nat.{suc-ne-zero, suc_inj, not-suc-le-zero}
-use native.Mathlib.Numerals.{add-one}
 use native.Mathlib.Omega.{arith}
-use borrow.Author.Tests.{lt-ltb, le-ltb, le-leb, lt-leb, eq-eqb, ne_eqb, ltb-true, ltb-false}
+use borrow.Author.Tests.{lt-ltb, le-ltb, eq-eqb, ne_eqb, ltb-true, ltb-false}
 use lib.Dec.{eqb, ltb}
-use lib.ListN.{length, get_or, take, drop, length-take, drop_of_length-le, get_or-eq_default}
-use lib.Seq.{drop-cons, get_or-take}
+use lib.ListN.{length, get_or, get_or-eq_default}
 use Rattle.utf8.specs.Lists.{any, same, join_map}
 use Rattle.utf8.proofs.Places.{any_append, get_or_inside}
 use Rattle.model.specs.Model.{piece, no_id, fallback_id, spans_of}
-use Rattle.model.specs.Check.{pair_too_long, pair_rises, fallback_fits, step_spans}
+use Rattle.model.specs.Check.{pair_too_long, fallback_fits, step_spans}
 use Rattle.model.specs.declared.Span.{Span}
 use Rattle.model.specs.declared.Step.{Step}
 
@@ -26,22 +24,6 @@ module _ (a b : ℕ) where
       go : (t : Bool) → ltb (a + 255) b ≡ t → t ≡ ltb 255 (b - a)
       go true e = sym (lt-ltb 255 (b - a) (omega (arith, ltb-true (a + 255) b e)))
       go false e = sym (le-ltb 255 (b - a) (omega (arith, ltb-false (a + 255) b e)))
-
-  pub pair_too_long_lem : a + 255 < b → pair_too_long (a, b) ≡ true
-  unfolding pair_too_long
-  pair_too_long_lem h = lt-ltb 255 (b - a) (omega arith)
-
-  pub pair_fits : b ≤ a + 255 → pair_too_long (a, b) ≡ false
-  unfolding pair_too_long
-  pair_fits h = le-ltb 255 (b - a) (omega arith)
-
-  pub pair_rises_lem : a ≤ b → pair_rises (a, b) ≡ true
-  unfolding pair_rises
-  pair_rises_lem h = le-leb a b h
-
-  pub pair_falls : b < a → pair_rises (a, b) ≡ false
-  unfolding pair_rises
-  pair_falls h = lt-leb a b h
 
 same-one : (xs : List ℕ) (b : ℕ) → length xs ≡ 1 → same xs (b ∷ []) ≡ eqb (get_or xs 0 0) b
 same-one [] b h = absurd (suc-ne-zero 0 (sym h))
@@ -81,24 +63,6 @@ pub any_spans : (test : Span → Bool) (steps : List Step) → any (λ (step : S
 unfolding step_spans
 any_spans test [] = refl
 any_spans test (step ∷ steps) = rw (any_append test (spans_of step) (join_map spans_of steps), any_spans test steps)
-
--- Tests of the strings of the first count steps, one step more and the end.
-module _ (test : Span → Bool) (steps : List Step) (count i : ℕ) (d : Step) where
-  spans_at : i < count → i < length steps → any test (step_spans (drop i (take count steps))) ≡ any test (spans_of (get_or steps i d)) || any test (step_spans (drop (i + 1) (take count steps)))
-  unfolding step_spans
-  spans_at h k =
-      let l : i < length (take count steps) = omega (arith, length-take count steps) in
-      rw (add-one, drop-cons (take count steps) i d l, get_or-take count steps i d h) (any_append test (spans_of (get_or steps i d)) (step_spans (drop (suc i) (take count steps))))
-
-  pub spans_found : i < count → i < length steps → any test (spans_of (get_or steps i d)) ≡ true → any test (step_spans (drop i (take count steps))) ≡ true
-  spans_found h k e = spans_at h k ∙ rw e
-
-  pub spans_next : i < count → i < length steps → any test (spans_of (get_or steps i d)) ≡ false → any test (step_spans (drop i (take count steps))) ≡ any test (step_spans (drop (i + 1) (take count steps)))
-  spans_next h k e = spans_at h k ∙ rw e
-
-  pub spans_ended : count ≤ i → any test (step_spans (drop i (take count steps))) ≡ false
-  unfolding step_spans
-  spans_ended h = rw (drop_of_length-le (take count steps) {i = i} (omega (arith, length-take count steps)))
 
 -- The three ways to read a fallback id.
 module _ (fallback : List ℕ) (byte : ℕ) where

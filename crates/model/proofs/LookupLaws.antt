@@ -27,10 +27,6 @@ no_piece pieces id = go (leb (length pieces) id) refl
     go true e = rw (e, get_or-eq_default pieces [] {n = id} (leb-true (length pieces) id e))
     go false e = rw e
 
--- what a test of the piece of the same id says of an id
-pub entry_names : (pieces : List (List ℕ)) (id : ℕ) {n : ℕ} {r b : Bool} → n ≡ id → r ≡ is_empty (piece pieces n) → r ≡ b → names_no_piece pieces id ≡ b
-entry_names pieces id q told is = no_piece pieces id ∙ rw (← q) (sym told ∙ is)
-
 pub empty-is : (xs : List ℕ) → eqb (length xs) 0 ≡ is_empty xs
 empty-is [] = refl
 empty-is (x ∷ xs) = ne_eqb (length (x ∷ xs)) 0 (omega arith)

@@ -14,35 +14,9 @@ use native.Mathlib.Omega.{arith}
 use mathlib.Core.Logic.{⊎_elim}
 use borrow.Author.Tests.{lt-ltb, le-ltb, ltb-true, ltb-false, eq-eqb, ne_eqb}
 use lib.Dec.{ltb, eqb}
-use lib.ListN.{length, get_or, drop, drop_of_length-le}
-use lib.Seq.{drop-cons}
 use Rattle.utf8.specs.Lists.{same}
 use Rattle.utf8.proofs.Tests.{either, clash}
 use Rattle.model.specs.ByteOrder.{order_or, byte_order, is_less}
-
-module _ (xs ys : List ℕ) (i : ℕ) where
-  -- where neither has ended, the bytes at the place decide, or else what follows
-  pub order_at : i < length xs → i < length ys → byte_order (drop i xs) (drop i ys) ≡ order_or (get_or xs i 0) (get_or ys i 0) (byte_order (drop (i + 1) xs) (drop (i + 1) ys))
-  order_at h k = rw (add-one, drop-cons xs i 0 h, drop-cons ys i 0 k)
-
-  pub order_less : i < length xs → i < length ys → get_or xs i 0 < get_or ys i 0 → byte_order (drop i xs) (drop i ys) ≡ Less
-  order_less h k lt = order_at h k ∙ rw (lt-ltb (get_or xs i 0) (get_or ys i 0) lt)
-
-  pub order_greater : i < length xs → i < length ys → get_or ys i 0 < get_or xs i 0 → byte_order (drop i xs) (drop i ys) ≡ Greater
-  order_greater h k lt = order_at h k ∙ rw (le-ltb (get_or xs i 0) (get_or ys i 0) (le_of_lt lt), lt-ltb (get_or ys i 0) (get_or xs i 0) lt)
-
-  pub order_next : i < length xs → i < length ys → get_or ys i 0 ≤ get_or xs i 0 → get_or xs i 0 ≤ get_or ys i 0 → byte_order (drop i xs) (drop i ys) ≡ byte_order (drop (i + 1) xs) (drop (i + 1) ys)
-  order_next h k le ge = order_at h k ∙ rw (le-ltb (get_or xs i 0) (get_or ys i 0) le, le-ltb (get_or ys i 0) (get_or xs i 0) ge)
-
-  -- where one has ended
-  pub order_longer : i < length xs → length ys ≤ i → byte_order (drop i xs) (drop i ys) ≡ Greater
-  order_longer h k = rw (drop-cons xs i 0 h, drop_of_length-le ys k)
-
-  pub order_shorter : length xs ≤ i → i < length ys → byte_order (drop i xs) (drop i ys) ≡ Less
-  order_shorter h k = rw (drop_of_length-le xs h, drop-cons ys i 0 k)
-
-  pub order_ended : length xs ≤ i → length ys ≤ i → byte_order (drop i xs) (drop i ys) ≡ Equal
-  order_ended h k = rw (drop_of_length-le xs h, drop_of_length-le ys k)
 
 -- ---- the order of two numbers, or else what is given
 

@@ -3,22 +3,21 @@ use Rattle.std.specs.declared.cmp.Ordering.{Ordering}
 use Rattle.std.specs.declared.cmp.Ordering.TheVariants.{Less, Equal}
 use mathlib.Core.Path.{◌≡◌, refl, sym, ap, ◌∙◌}
 use mathlib.Core.Bool.{Bool, true, false, ◌&&◌, ◌||◌}
-use mathlib.Core.List.{List, ◌++◌, map}
-use Prim.Native.Nat.{ℕ, ◌+◌, ◌-◌, ◌≤◌, ◌<◌, min}
+use mathlib.Core.List.{List, map}
+use Prim.Native.Nat.{ℕ, ◌+◌, ◌≤◌, ◌<◌, min}
 use native.Mathlib.Nat.{le_of_lt, zero-add}
 use native.Mathlib.Omega.{arith}
 use borrow.Author.Tests.{lt-ltb, le-ltb, eq-eqb, ne_eqb}
 use lib.Dec.{ltb, eqb}
 use lib.ListN.{length, get_or, drop, length-map, get_or-map}
-use Rattle.utf8.specs.Lists.{all, neighbours, zip, same, below}
-use Rattle.utf8.proofs.Places.{length-zip, get_or_zip, get_or_inside, length-count_from, get_or_count_from, all-next, all_broken, all-ended, all_pair_next, all_pair_broken, all_pair_ended, all_pair_holds}
-use Rattle.model.specs.Model.{strings, piece, Row, rows_of, row_of}
+use Rattle.utf8.specs.Lists.{all, neighbours, zip, below}
+use Rattle.utf8.proofs.Places.{length-zip, get_or_zip, get_or_inside, length-count_from, get_or_count_from, all_pair_next, all_pair_broken, all_pair_ended, all_pair_holds}
+use Rattle.model.specs.Model.{Row, rows_of, row_of}
 use Rattle.model.specs.ByteOrder.{order_or, byte_order, is_less}
 use Rattle.model.specs.inner.Search.{pair_order, row_order, found_row, row_found}
-use Rattle.model.specs.Check.{pair_before, rows_ascend, all_below, rows_join}
+use Rattle.model.specs.Check.{pair_before, rows_ascend}
 use Rattle.model.proofs.OrderLaws.{by_below, by_numbers, or_less, or-greater, or_else, is_equal, equal-or, less_is, never, keys_ascend, two_of}
 use Rattle.model.proofs.SearchLaws.{Falls, entry_found, keys_fall}
-use Rattle.model.proofs.StringLaws.{length-strings}
 
 -- ---- rows in order
 
@@ -69,45 +68,6 @@ module _ (left right : List ℕ) where
     ascend_ended h = all_pair_ended _ (zip left right) i (0, 0) (rw length-zip h)
 
 -- ---- results that are joins
-
--- Whether a result's piece is left joined to right.
-abbrev pub joined : List (List ℕ) → ℕ → ℕ → ℕ → Bool
-joined pieces l r whole = same (piece pieces whole) (piece pieces l ++ piece pieces r)
-
-module _ (pieces : List (List ℕ)) (left right result : List ℕ) (i : ℕ) where
-  -- Whether the rows from a place on have their joins.
-  pub join_from : Bool
-  join_from = all (λ (row : (ℕ × ℕ) × ℕ). joined pieces row.0.0 row.0.1 row.1) (drop i (zip (zip left right) result))
-
-module _ (pieces : List (List ℕ)) (left right result : List ℕ) where
-  pub join-start : rows_join pieces left right result ≡ join_from pieces left right result 0
-  unfolding rows_join join_from
-  join-start = refl
-
-  module _ (i : ℕ) where
-    row-at : i < length left → i < length right → i < length result → get_or (zip (zip left right) result) i ((0, 0), 0) ≡ ((get_or left i 0, get_or right i 0), get_or result i 0)
-    row-at h k l = get_or_zip (zip left right) result i (0, 0) 0 (rw length-zip (omega arith)) l ∙ rw (get_or_zip left right i 0 0 h k)
-
-    inside : i < length left → i < length right → i < length result → i < length (zip (zip left right) result)
-    inside h k l = rw (length-zip, length-zip) (omega arith)
-
-    pub join-next : i < length left → i < length right → i < length result → joined pieces (get_or left i 0) (get_or right i 0) (get_or result i 0) ≡ true → join_from pieces left right result i ≡ join_from pieces left right result (i + 1)
-    unfolding join_from
-    join-next h k l e = all-next _ (zip (zip left right) result) i ((0, 0), 0) (inside h k l) (rw (row-at h k l) e)
-
-    pub join_broken : i < length left → i < length right → i < length result → joined pieces (get_or left i 0) (get_or right i 0) (get_or result i 0) ≡ false → join_from pieces left right result i ≡ false
-    unfolding join_from
-    join_broken h k l e = all_broken _ (zip (zip left right) result) i ((0, 0), 0) (inside h k l) (rw (row-at h k l) e)
-
-    pub join-ended : min (min (length left) (length right)) (length result) ≤ i → join_from pieces left right result i ≡ true
-    unfolding join_from
-    join-ended h = all-ended _ (zip (zip left right) result) i (rw (length-zip, length-zip) h)
-
--- ---- ids below the piece count
-
--- what a test of a column against the count that the offsets give says of it
-pub below-count : (bytes offsets ids : List ℕ) {count : ℕ} {r b : Bool} → count ≡ length offsets - 1 → r ≡ all_below count ids → r ≡ b → all_below (length (strings bytes offsets)) ids ≡ b
-below-count bytes offsets ids is-count told is = ap (λ (n : ℕ). all_below n ids) (length-strings bytes offsets ∙ sym is-count) ∙ sym told ∙ is
 
 -- ---- a search among rows that ascend
 

@@ -1,17 +1,16 @@
 -- Laws of the strings that lie end to end: how many there are, and which stands at a place.
 use mathlib.Core.Path.{◌≡◌}
-use mathlib.Core.Bool.{Bool, true, false}
+use mathlib.Core.Bool.{true, false}
 use mathlib.Core.Logic.{⊎_elim}
 use mathlib.Core.List.{List, []}
 use Prim.Native.Nat.{ℕ, ◌+◌, ◌-◌, ◌≤◌, ◌<◌}
 use native.Mathlib.Omega.{arith}
 use borrow.Author.Tests.{ltb-true, ltb-false}
 use lib.Dec.{ltb}
-use lib.ListN.{length, get_or, take, drop, length-take, length-drop}
+use lib.ListN.{length, get_or, take, length-take, length-drop}
 use lib.Seq.{slice}
-use Rattle.utf8.specs.Lists.{any}
 use Rattle.utf8.proofs.Tests.{either}
-use Rattle.utf8.proofs.Places.{length-between, get_or_between, get_or_between-past, any_found, any_next, any-ended}
+use Rattle.utf8.proofs.Places.{length-between, get_or_between, get_or_between-past}
 use Rattle.model.specs.Model.{strings}
 
 module _ (bytes offsets : List ℕ) where
@@ -39,14 +38,3 @@ module _ (bytes offsets : List ℕ) where
 
       past : ltb (i + 1) (length offsets) ≡ false → length (get_or (strings bytes offsets) i []) ≤ length bytes
       past e = rw (string_past i (ltb-false (i + 1) (length offsets) e)) (omega arith)
-
--- Tests of all strings, one string more and the end.
-module _ (test : List ℕ → Bool) (bytes offsets : List ℕ) (i : ℕ) where
-  pub any_string_found : i + 1 < length offsets → test (get_or (strings bytes offsets) i []) ≡ true → any test (drop i (strings bytes offsets)) ≡ true
-  any_string_found h e = any_found test (strings bytes offsets) i [] (omega (arith, length-strings bytes offsets)) e
-
-  pub any_string_next : i + 1 < length offsets → test (get_or (strings bytes offsets) i []) ≡ false → any test (drop i (strings bytes offsets)) ≡ any test (drop (i + 1) (strings bytes offsets))
-  any_string_next h e = any_next test (strings bytes offsets) i [] (omega (arith, length-strings bytes offsets)) e
-
-  pub any_string_ended : length offsets ≤ i + 1 → any test (drop i (strings bytes offsets)) ≡ false
-  any_string_ended h = any-ended test (strings bytes offsets) i (omega (arith, length-strings bytes offsets))

@@ -54,7 +54,8 @@ pub struct AddedTokens<'a> {
     pub rstrip: &'a [bool],
 }
 
-// The steps of the normalization: of the 16 the first `count`. Their strings lie in `bytes`.
+// The steps of the normalization: of the 16 the first `count`. Their strings lie in `bytes`. No slice, since C gives steps as numbers and there
+// is no memory but this array for a list of them.
 #[derive(Clone, Copy)]
 pub struct StepList<'a> {
     pub bytes: &'a [u8],
@@ -110,7 +111,7 @@ pub struct Metaspace {
     pub split: bool,
 }
 
-// What every call answers: the number (rule 3.1), the place that a 9 names, and the three counts.
+// What C gets of every call: the number (rule 3.1), the place that a 9 names, and the three counts.
 #[repr(C)]
 #[derive(Clone, Copy)]
 pub struct Answer {

@@ -7,7 +7,7 @@ use utf8::edges::{ends_with, starts_with};
 // The bytes of the mark.
 pub const MARK: [u8; 3] = [0xE2, 0x96, 0x81];
 
-// The width of the mark at the head, 0 where none stands there; `raw` says that a space is a mark too.
+// The width of the mark at the head, 0 where none stands there, as the definition has it; `raw` says that a space is a mark too.
 pub fn mark_width(bytes: &[u8], raw: bool) -> usize
     ensures { result ≡ mark_width raw bytes.now }
 {

@@ -5,7 +5,7 @@ ghost use Rattle.model.specs.Model.{strings, strings_of, step_string};
 
 use crate::{Span, Strings};
 
-// The cells from `start` up to `stop`, as far as there are any.
+// The cells from `start` up to `stop`, as far as there are any; a slice's `get` would give none of them where some are missing.
 pub fn part<T>(cells: &[T], start: usize, stop: usize) -> &[T]
     ensures { result.now ≡ slice start stop cells.now }
 {

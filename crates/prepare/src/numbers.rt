@@ -1,4 +1,4 @@
-// The kind of split and the raw path as numbers of the index, and back.
+// The kind of split and the raw path as numbers of the index, and back: the index is a row of words that C keeps.
 ghost use Rattle.std.specs.Prelude.{◌≡◌};
 ghost use Rattle.prepare.specs.Numbers.{kind_number, raw_path_number};
 ghost use Rattle.prepare.specs.inner.Read.{kind_from, raw_path_from};

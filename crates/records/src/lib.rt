@@ -18,7 +18,7 @@ pub struct AddedToken {
     pub rstrip: bool,
 }
 
-// What stands past the end of a list.
+// What stands past the end of a list: the definition reads a record there too.
 pub const NO_TOKEN: AddedToken = AddedToken {
     content: Span { place: 0, len: 0 },
     id: 0,

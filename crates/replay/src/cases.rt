@@ -3,8 +3,9 @@ ghost use Rattle.std.specs.Prelude.{◌≤◌, IfOk};
 
 use crate::calls::{Call, Given, LAST};
 use crate::compare::{Buffer, Difference, Part};
-use crate::sample::{Sample, number_at, place_at};
+use crate::sample::{Sample, place_at};
 use crate::{calls, columns, compare};
+use model::tables::number_at;
 
 // Where a call's row has what it is given, the five numbers of the answer, the room of each scratch buffer and what stands in each
 // of its bytes afterwards, then the starts and ends of its numbers (ids, and the result of encode and fragments) and of its bytes (text, and

@@ -1,7 +1,8 @@
 // A model's row of the sample, as the model that a call takes.
 ghost use Rattle.std.specs.Prelude.{◌<◌};
 
-use crate::sample::{Sample, number_at};
+use crate::sample::Sample;
+use model::tables::number_at;
 use model::{
     AddedTokens, MergeRows, Metaspace, Model, PrependScheme, Span, Step, StepList, Strings,
 };

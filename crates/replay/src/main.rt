@@ -37,6 +37,7 @@ fn read_full(from: &mut impl Read, buffer: &mut [u8]) -> io::Result<usize>
     ensures { IfOk result (λ n. n ≤ length buffer.new) }
 {
     let mut done = 0;
+    // By as many bytes as a read gives.
     while done < buffer.len() {
         let more = from.read(&mut buffer[done..])?;
         if more == 0 {

@@ -2,13 +2,14 @@
 use crate::calls::Call;
 use crate::cases;
 use crate::report::{Tally, count};
-use crate::sample::{Sample, between, number_at};
+use crate::sample::{Sample, between};
+use model::tables::number_at;
 use std::io;
 
 // Numbers a row.
 pub(crate) const ROW: usize = 27;
 
-// The number of a row that is a model.
+// The number of a row that is a model, as the stored sample has it.
 const MODEL: u32 = 0;
 
 // Replays the first `rows` rows.

@@ -1,5 +1,6 @@
 // The sample's bytes, numbers and flags. A place that the sample does not have reads as 0, and a part that it does not have as an
 // empty one: the sum over the sample tells such damage.
+use model::tables::number_at;
 
 // Stands before a number that takes four bytes.
 const IN_FULL: u8 = 255;
@@ -10,10 +11,6 @@ pub(crate) struct Sample<'a> {
     pub bytes: &'a [u8],
     pub numbers: &'a [u32],
     pub flags: &'a [bool],
-}
-
-pub(crate) fn number_at(numbers: &[u32], at: usize) -> u32 {
-    if at < numbers.len() { numbers[at] } else { 0 }
 }
 
 pub(crate) fn place_at(numbers: &[u32], at: usize) -> usize {

@@ -1,6 +1,6 @@
 -- Laws of units that come again: what is remembered of a unit, and its ids copied. Assumes nothing.
 use Rattle.std.specs.Prelude.{Option}
-use Prim.Native.Nat.{ℕ, suc, ◌+◌, ◌-◌, ◌≤◌, ◌<◌, min}
+use Prim.Native.Nat.{ℕ, ◌+◌, ◌-◌, ◌≤◌, ◌<◌, min}
 use native.Mathlib.Omega.{arith}
 use mathlib.Core.Path.{◌≡◌, refl, sym, ap, ap₂, ◌∙◌}
 use mathlib.Core.Bool.{Bool, true, false, ◌&&◌}
@@ -8,8 +8,8 @@ use mathlib.Core.Logic.{⊎_elim}
 use mathlib.Core.List.{List, [], ◌∷◌, ◌++◌, append_assoc, append-nil}
 use borrow.Author.Tests.{eqb-true, eqb-false, ltb-true}
 use lib.Dec.{eqb, ltb}
-use lib.ListN.{length, take, drop, get_or, set, replicate, length-append, length-take, length-drop, length-set, length-replicate, get_or-replicate, drop_of_length-le, get_or-append}
-use lib.Seq.{length-take-le, take-append-le, take_at, drop_at, drop-drop, take-take, get_or-take, get_or-drop, get_or-set_same, get_or-set_other, paste, paste-suc}
+use lib.ListN.{length, take, drop, get_or, set, replicate, length-append, length-take, length-drop, length-set, length-replicate, get_or-replicate, drop_of_length-le}
+use lib.Seq.{length-take-le, take-append-le, take_at, drop_at, drop-drop, take-take, get_or-set_same, get_or-set_other}
 use Rattle.utf8.specs.Lists.{join_map, same}
 use Rattle.utf8.specs.Chars.{chars}
 use Rattle.utf8.proofs.Tests.{either, and_left, and_right}
@@ -30,25 +30,8 @@ use Rattle.stretches.proofs.WriterLaws.{merged_few, keeps_unit, fits_merging, Go
 -- ---- cells copied within a buffer
 
 module _ (out : List ℕ) (at count to : ℕ) (behind : at + count ≤ to) (fits : to + count ≤ length out) where
-  copied_cell : (j : ℕ) → j < count → get_or (paste out to (take count (drop at out)) j) (at + j) 0 ≡ get_or (take count (drop at out)) j 0
-  copied_cell j h =
-      let head = take to out in
-      let part = take count (drop at out) in
-      let long : length head ≡ to = length-take-le to out (omega arith) in
-      get_or-append (head ++ take j part) (drop (to + j) out) 0 (at + j) (omega (arith, length-append head (take j part)))
-      ∙ get_or-append head (take j part) 0 (at + j) (omega arith)
-      ∙ get_or-take to out (at + j) 0 (omega arith)
-      ∙ sym (get_or-take count (drop at out) j 0 h ∙ get_or-drop at out j 0)
-
   pub length_copied : length (take count (drop at out)) ≡ count
   length_copied = length-take-le count (drop at out) (omega (arith, length-drop at out))
-
-  -- One cell more.
-  pub copied_next : {now : List ℕ} (j : ℕ) → j < count → now ≡ paste out to (take count (drop at out)) j → set now (to + j) (get_or now (at + j) 0) ≡ paste out to (take count (drop at out)) (suc j)
-  copied_next j h e =
-      rw e
-      (rw (copied_cell j h)
-      (paste-suc out to (take count (drop at out)) j 0 (omega arith) (omega (arith, length_copied))))
 
 -- Zeros behind what was copied, in a part that was lent.
 pub zeroed : (out copy : List ℕ) (to count starts : ℕ) → length copy ≡ count → count ≤ starts → to + starts ≤ length out

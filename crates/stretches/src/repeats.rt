@@ -58,6 +58,7 @@ impl Encoder<'_> {
         requires section_len_bound { (length section.now < 4294967296) × (length out.old < 4294967296) }
         ensures { ◌≡◌ {A = Merged} (record { count = result; ids = out.new }) (rest_by self.now raw section.now start out.old) }
     {
+        // A unit of no bytes, which no unit repeats: in place of a flag in each of the slots.
         let none = Seen {
             start: 0,
             end: 0,

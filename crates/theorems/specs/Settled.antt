@@ -1,6 +1,6 @@
 -- A contract here says that the answer and all lent cells afterwards are what a definition computes from what was there before. That
 -- settles everything: no two different outcomes satisfy it.
-use Rattle.std.specs.Prelude.{ℕ, ◌≡◌, refl, cond, List, eqb, Result, Ok, Err, ⊤}
+use Rattle.std.specs.Prelude.{ℕ, ◌≡◌, refl, cond, List, Option, eqb, Result, Ok, Err, ⊤}
 use Rattle.std.proofs.Common.{sym, ap, ◌∙◌}
 use Rattle.model.specs.declared.Answer.{Answer}
 use Rattle.model.specs.declared.Counts.{Counts}
@@ -9,6 +9,7 @@ use Rattle.model.specs.declared.Refusal.TheVariants.{WrongSize, OffsetsAstray, B
 use Rattle.model.specs.Answers.{refused, number_of, place_named, answer_of, checked}
 use Rattle.units.specs.declared.Split.{Split}
 use Rattle.units.specs.Derived.{Noting}
+use Rattle.sections.specs.declared.Match.{Match}
 
 pub settled {ℓ κ} : {Before : Type ℓ} {After : Type κ} (outcome : Before → After) (before : Before) (x y : After) → x ≡ outcome before → y ≡ outcome before → x ≡ y
 settled outcome before x y p q = p ∙ sym q
@@ -29,6 +30,13 @@ settled_view view injective outcome before x y p q = injective x y (settled outc
 -- They have if there is a way back from the view.
 injective_by {ℓ κ} : {A : Type ℓ} {B : Type κ} (view : A → B) (back : B → A) → ((x : A) → back (view x) ≡ x) → (x y : A) → view x ≡ view y → x ≡ y
 injective_by view back returns x y p = sym (returns x) ∙ ap back p ∙ returns y
+
+-- An `Option` is its own view: what a search found, and the match that a search for tokens gave.
+pub found_id_injective : (x y : Option ℕ) → x ≡ y → x ≡ y
+found_id_injective x y p = p
+
+pub sought_match_injective : (x y : Option Match) → x ≡ y → x ≡ y
+sought_match_injective x y p = p
 
 -- The views that contracts use: the answer for C in place of the counts or the refusal that a call gives.
 abbrev refusal_named : ℕ → ℕ → Refusal

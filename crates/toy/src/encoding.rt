@@ -1,7 +1,7 @@
 // T, U and models near them through encode. Writes a line for each call: the model, the text, the answer's number, how many cells
 // it says were written and how many characters dropped, and all that stands in the three buffers afterwards.
 use crate::tables::{ALWAYS, N_ALONE, crossed_offsets, crossed_pieces, fallback, t, u};
-use crate::telling::{tell_bytes, tell_cells};
+use crate::telling::{Rooms, tell_bytes, tell_cells};
 use model::{AddedTokens, Answer, Metaspace, Model, PrependScheme, Span, Step, StepList, Strings};
 use std::io;
 
@@ -12,14 +12,6 @@ const BEFORE: u8 = 0xEE;
 
 // The longest buffers that are lent.
 const ROOM: usize = 9;
-
-// How many cells of result and bytes of scratch a call is lent.
-#[derive(Clone, Copy)]
-struct Rooms {
-    out: usize,
-    a: usize,
-    b: usize,
-}
 
 // For the raw path, where scratch is cleared and otherwise not used.
 const RAW: Rooms = Rooms { out: 6, a: 1, b: 2 };

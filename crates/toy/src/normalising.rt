@@ -1,7 +1,7 @@
 // T, with other steps and metaspace, through normalise: what Strip takes away, every step on empty text, and buffers one byte
 // short and exact. Writes a line for each: the answer's number, and all that stands in the three buffers afterwards.
 use crate::tables::{ALWAYS, NO_STEPS, fallback, t};
-use crate::telling::tell_bytes;
+use crate::telling::{Rooms, tell_bytes};
 use model::{Answer, Metaspace, Model, Span, Step, StepList};
 use std::io;
 
@@ -10,14 +10,6 @@ const BEFORE: u8 = 0xEE;
 
 // The longest buffer that is lent.
 const ROOM: usize = 8;
-
-// How many bytes of result and of scratch a call is lent.
-#[derive(Clone, Copy)]
-struct Rooms {
-    out: usize,
-    a: usize,
-    b: usize,
-}
 
 const AMPLE: Rooms = Rooms {
     out: ROOM,

@@ -34,9 +34,6 @@ module _ {A : Type 0} (test : A → Bool) where
     pub any_places : (n : ℕ) → n ≡ length xs → list_any (λ (k : ℕ). test (get_or xs k d)) (range_with_len 0 n) ≡ any test xs
     any_places n e = any_from 0 n (omega arith)
 
-    pub all_places : (n : ℕ) → n ≡ length xs → list_all (λ (k : ℕ). test (get_or xs k d)) (range_with_len 0 n) ≡ all test xs
-    all_places n e = all_from 0 n (omega arith)
-
 -- ---- how many pass a test
 
 module _ {A : Type 0} (test : A → Bool) where

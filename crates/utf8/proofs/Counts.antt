@@ -2,40 +2,12 @@
 use mathlib.Core.Path.{◌≡◌, refl}
 use mathlib.Core.Bool.{Bool, true, false}
 use mathlib.Core.List.{List, [], ◌∷◌}
-use Prim.Native.Nat.{ℕ, zero, suc, ◌+◌, ◌≤◌, ◌<◌}
-use native.Mathlib.Nat.{le_of_suc-le-suc, not-suc-le-zero, le_refl, lt_irrefl, lt_of_lt_of_le, zero-add, add-zero}
-use native.Mathlib.Numerals.{add-one}
+use Prim.Native.Nat.{ℕ, zero, suc, ◌≤◌, ◌<◌}
+use native.Mathlib.Nat.{le_of_suc-le-suc, not-suc-le-zero, le_refl, lt_irrefl, lt_of_lt_of_le}
 use native.Mathlib.Omega.{arith}
-use lib.ListN.{length, get_or, drop, drop_of_length-le}
-use lib.Seq.{drop-cons}
+use lib.ListN.{length, get_or}
 use Rattle.utf8.specs.Lists.{count}
 use Rattle.utf8.proofs.Tests.{clash}
-
--- ---- a loop that counts: n of the elements before the place i have passed
-
-module _ {ℓ} {A : Type ℓ} (test : A → Bool) (xs : List A) (i n : ℕ) where
-  pub tally : ℕ
-  tally = n + count test (drop i xs)
-
-module _ {ℓ} {A : Type ℓ} (test : A → Bool) (xs : List A) where
-  pub tally_start : tally test xs 0 0 ≡ count test xs
-  unfolding tally
-  tally_start = zero-add (count test xs)
-
-  module _ (i n : ℕ) where
-    pub tally_found : (d : A) → i < length xs → test (get_or xs i d) ≡ true → tally test xs i n ≡ tally test xs (i + 1) (n + 1)
-    unfolding tally
-    tally_found d h e =
-        let more : count test (drop i xs) ≡ suc (count test (drop (i + 1) xs)) = rw (add-one, drop-cons xs i d h, e) in
-        omega (arith, more)
-
-    pub tally_next : (d : A) → i < length xs → test (get_or xs i d) ≡ false → tally test xs i n ≡ tally test xs (i + 1) n
-    unfolding tally
-    tally_next d h e = rw (add-one, drop-cons xs i d h, e)
-
-    pub tally_ended : length xs ≤ i → tally test xs i n ≡ n
-    unfolding tally
-    tally_ended h = rw (drop_of_length-le xs h, add-zero)
 
 module _ {ℓ} {A : Type ℓ} (test : A → Bool) (x : A) (xs : List A) where
   count_in : test x ≡ true → count test (x ∷ xs) ≡ suc (count test xs)

@@ -141,15 +141,6 @@ module _ {ℓ} {A : Type ℓ} (test : A × A → Bool) (xs : List A) (i : ℕ) (
   at_pair : (b : Bool) → i + 1 < length xs → test (get_or xs i d, get_or xs (i + 1) d) ≡ b → test (get_or (neighbours xs) i (d, d)) ≡ b
   at_pair b h e = ap test (get_or_neighbours xs i d d h) ∙ e
 
-  pub any_pair_found : i + 1 < length xs → test (get_or xs i d, get_or xs (i + 1) d) ≡ true → any test (drop i (neighbours xs)) ≡ true
-  any_pair_found h e = any_found test (neighbours xs) i (d, d) (inside h) (at_pair true h e)
-
-  pub any_pair_next : i + 1 < length xs → test (get_or xs i d, get_or xs (i + 1) d) ≡ false → any test (drop i (neighbours xs)) ≡ any test (drop (i + 1) (neighbours xs))
-  any_pair_next h e = any_next test (neighbours xs) i (d, d) (inside h) (at_pair false h e)
-
-  pub any_pair_ended : length xs ≤ i + 1 → any test (drop i (neighbours xs)) ≡ false
-  any_pair_ended h = any-ended test (neighbours xs) i (omega (arith, length-neighbours xs))
-
   pub all_pair_broken : i + 1 < length xs → test (get_or xs i d, get_or xs (i + 1) d) ≡ false → all test (drop i (neighbours xs)) ≡ false
   all_pair_broken h e = all_broken test (neighbours xs) i (d, d) (inside h) (at_pair false h e)
 
@@ -161,30 +152,6 @@ module _ {ℓ} {A : Type ℓ} (test : A × A → Bool) (xs : List A) (i : ℕ) (
 
   pub all_pair_holds : all test (neighbours xs) ≡ true → i + 1 < length xs → test (get_or xs i d, get_or xs (i + 1) d) ≡ true
   all_pair_holds e h = ap test (sym (get_or_neighbours xs i d d h)) ∙ all_holds test (neighbours xs) i (d, d) e (inside h)
-
-module _ {ℓ} {A : Type ℓ} (test : ℕ × A → Bool) (xs : List A) (i : ℕ) (d : A) where
-  -- ---- tests of elements with their places, one more and the end
-
-  at-numbered : (b : Bool) → i < length xs → test (i, get_or xs i d) ≡ b → test (get_or (numbered xs) i (0, d)) ≡ b
-  at-numbered b h e = ap test (get_or_numbered xs i 0 d h) ∙ e
-
-  pub any-numbered_found : i < length xs → test (i, get_or xs i d) ≡ true → any test (drop i (numbered xs)) ≡ true
-  any-numbered_found h e = any_found test (numbered xs) i (0, d) (omega (arith, length-numbered xs)) (at-numbered true h e)
-
-  pub any-numbered-next : i < length xs → test (i, get_or xs i d) ≡ false → any test (drop i (numbered xs)) ≡ any test (drop (i + 1) (numbered xs))
-  any-numbered-next h e = any_next test (numbered xs) i (0, d) (omega (arith, length-numbered xs)) (at-numbered false h e)
-
-  pub any-numbered-ended : length xs ≤ i → any test (drop i (numbered xs)) ≡ false
-  any-numbered-ended h = any-ended test (numbered xs) i (omega (arith, length-numbered xs))
-
-  pub all-numbered_broken : i < length xs → test (i, get_or xs i d) ≡ false → all test (drop i (numbered xs)) ≡ false
-  all-numbered_broken h e = all_broken test (numbered xs) i (0, d) (omega (arith, length-numbered xs)) (at-numbered false h e)
-
-  pub all-numbered-next : i < length xs → test (i, get_or xs i d) ≡ true → all test (drop i (numbered xs)) ≡ all test (drop (i + 1) (numbered xs))
-  all-numbered-next h e = all-next test (numbered xs) i (0, d) (omega (arith, length-numbered xs)) (at-numbered true h e)
-
-  pub all-numbered-ended : length xs ≤ i → all test (drop i (numbered xs)) ≡ true
-  all-numbered-ended h = all-ended test (numbered xs) i (omega (arith, length-numbered xs))
 
 module _ {ℓ κ} {A : Type ℓ} {B : Type κ} where
   -- ---- two lists side by side

@@ -1,13 +1,11 @@
 -- A loop that writes an output into the front of a buffer, part by part. Assumes nothing.
-use Prim.Native.Nat.{ℕ, ◌+◌, ◌-◌, ◌≤◌, ◌<◌}
-use native.Mathlib.Nat.{zero-add}
+use Prim.Native.Nat.{ℕ, ◌+◌, ◌≤◌, ◌<◌}
 use native.Mathlib.Omega.{arith}
 use native.Mathlib.Numerals.{add-one}
 use mathlib.Core.Path.{◌≡◌, refl, sym, ap, ◌∙◌}
-use mathlib.Core.List.{List, [], ◌∷◌, ◌++◌, append_assoc, append-nil}
-use lib.ListN.{length, take, drop, set, length-append, length-drop, drop_of_length-le}
-use lib.Seq.{take_at, drop_at, drop-drop, take-add, take-append_seam, drop-append_seam, drop-append-add, length-take-le, take-length, set_split, append_snoc}
-use Rattle.utf8.proofs.Lists.{part_to_end}
+use mathlib.Core.List.{List, [], ◌∷◌, ◌++◌}
+use lib.ListN.{length, take, drop, set, length-append, length-drop}
+use lib.Seq.{take_at, drop_at, drop-drop, take-add, take-append_seam, drop-append_seam, length-take-le, take-length, set_split, append_snoc}
 
 -- A list is a part and then the rest.
 pub record Begins (whole part rest : List ℕ) : Type 0 where
@@ -57,10 +55,6 @@ module _ {output whole before out : List ℕ} {at : ℕ} (room : length output �
     pub written_fits : at + length part ≤ length out
     written_fits = omega (arith, reach, written-length)
 
-    -- So the place after it is within the buffer that was lent.
-    pub written_next : at + length part ≤ length before
-    written_next = omega (arith, reach, room)
-
     pub written-part : Written output rest before (take at out ++ part ++ drop (at + length part) out) (at + length part)
     written-part = record {
       within = omega (arith, reach);
@@ -74,20 +68,3 @@ module _ {output whole before out : List ℕ} {at : ℕ} (room : length output �
 
     pub written_byte : Written output rest before (set out at b) (at + 1)
     written_byte = rw (set_split out at b written_room, ← append_snoc, ← add-one at) (written-part begins)
-
--- A buffer after one copy to its front, and after two.
-module _ (a before after : List ℕ) (one : after ≡ take 0 before ++ a ++ drop (0 + length a) before) where
-  pub copied_one : after ≡ a ++ drop (length a) before
-  copied_one = one ∙ rw zero-add
-
-  pub copied_two : (b last : List ℕ) → last ≡ take (length a) after ++ b ++ drop (length a + length b) after → last ≡ (a ++ b) ++ drop (length (a ++ b)) before
-  copied_two b last two = two ∙ rw (copied_one, take-append_seam, drop-append-add, drop-drop, length-append)
-
-  -- After one copy, a callee writes the buffer behind it.
-  pub copied_then : (b last : List ℕ) (w : ℕ) → w ≡ length a → last ≡ b ++ drop (length b) (take (length after - w) (drop w after))
-      → take w after ++ (last ++ drop (length after - w) (drop w after)) ≡ (a ++ b) ++ drop (length (a ++ b)) before
-  copied_then b last w e two =
-      let none : drop (length after - w) (drop w after) ≡ [] = drop_of_length-le (drop w after) {i = length after - w} (omega (arith, length-drop w after)) in
-      let front : take w after ≡ a = rw (e, copied_one, take-append_seam) in
-      let back : drop w after ≡ drop (length a) before = rw (e, copied_one, drop-append_seam) in
-      rw (none, append-nil, two, part_to_end after w, front, back, drop-drop, length-append, append_assoc)

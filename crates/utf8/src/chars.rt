@@ -26,7 +26,8 @@ fn width_if(s: &[u8], n: usize, low: u8, high: u8) -> usize
     }
 }
 
-// The width of the character at the head of s, 0 where none stands there. RFC 3629, section 4, by the first byte.
+// The width of the character at the head of s, 0 where none stands there. RFC 3629, section 4, by the first byte. No `Option`: the
+// definitions have widths as numbers with 0 for none, and the theorems are about them.
 pub fn char_width(s: &[u8]) -> usize
     ensures { result ≡ char_width s.now }
 {
@@ -47,7 +48,7 @@ pub fn char_width(s: &[u8]) -> usize
     }
 }
 
-// The width of the character at the right end of s, 0 where none stands there: a character is at most four bytes wide.
+// The width of the character at the right end of s, 0 where none stands there (as `char_width`): a character is at most four bytes wide.
 pub fn last_width(s: &[u8]) -> usize
     ensures { result ≡ last_width s.now }
 {

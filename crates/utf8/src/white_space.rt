@@ -28,7 +28,7 @@ pub fn is_white_space(code: u32) -> bool
         .any(|(low, high)| (*low..=*high).contains(&code))
 }
 
-// The width of the White_Space character at the head of s, 0 where none stands there.
+// The width of the White_Space character at the head of s, 0 where none stands there (as `chars::char_width`).
 pub fn white_width(s: &[u8]) -> usize
     ensures { result ≡ white_width s.now }
 {
@@ -55,7 +55,7 @@ pub fn trim_start(s: &[u8]) -> &[u8]
     &s[i..]
 }
 
-// The width of the White_Space character at the right end of s, 0 where none stands there.
+// The width of the White_Space character at the right end of s, 0 where none stands there (as `chars::char_width`).
 pub fn white_end(s: &[u8]) -> usize
     ensures { result ≡ white_end s.now }
 {

@@ -1,4 +1,5 @@
-// The static library: the public calls as functions for C, each slice as a pointer and a length. include/varitmol.h declares them.
+// The static library: the public calls as functions for C, each slice as a pointer and a length. include/varitmol.h declares them. They
+// differ in the call alone, and stand apart since C names each.
 // What the numbers of steps and metaspace stand for is in specs/Numbers.antt.
 
 #![tactic(auto)]
