@@ -89,8 +89,10 @@ pub fn encode_prepared(
     )
 }
 
-// The ids of a text. `continuation` says that it goes on from an earlier text: its opening section gets no virtual mark.
-pub fn encode(
+// `encode` on an accepted model, for a text that is not too long, with the rows derived of the model here. It begins with their tables and is
+// never inlined: behind the tests of `encode` a program that inlines them may clear them twice.
+#[inline(never)]
+fn encode_derived(
     model: &Model<'_>,
     text: &[u8],
     continuation: bool,
@@ -98,12 +100,10 @@ pub fn encode(
     scratch_a: &mut [u8],
     scratch_b: &mut [u8],
 ) -> Result<Counts, Refusal>
+    requires accepted { check_number (columns model.now) ≡ 0 }
+    requires short { length text.now ≤ 1048576 }
     ensures { ◌≡◌ {A = ScratchOutcome} (record { answer = answer_of result; out = out.new; scratch_a = scratch_a.new; scratch_b = scratch_b.new }) (encode_outcome (columns model.now) text.now continuation out.old scratch_a.old scratch_b.old) }
 {
-    if TEXT_LIMIT < text.len() {
-        return Err(Refusal::WrongSize);
-    }
-    check(model)?;
     let mut adjacency = [0u64; ADJACENCY_LEN];
     let mut index = [0u32; INDEX_LEN];
     prepare_checked(model, &mut adjacency, &mut index)?;
@@ -122,4 +122,22 @@ pub fn encode(
         scratch_a,
         scratch_b,
     )
+}
+
+// The ids of a text. `continuation` says that it goes on from an earlier text: its opening section gets no virtual mark.
+pub fn encode(
+    model: &Model<'_>,
+    text: &[u8],
+    continuation: bool,
+    out: &mut [u32],
+    scratch_a: &mut [u8],
+    scratch_b: &mut [u8],
+) -> Result<Counts, Refusal>
+    ensures { ◌≡◌ {A = ScratchOutcome} (record { answer = answer_of result; out = out.new; scratch_a = scratch_a.new; scratch_b = scratch_b.new }) (encode_outcome (columns model.now) text.now continuation out.old scratch_a.old scratch_b.old) }
+{
+    if TEXT_LIMIT < text.len() {
+        return Err(Refusal::WrongSize);
+    }
+    check(model)?;
+    encode_derived(model, text, continuation, out, scratch_a, scratch_b)
 }

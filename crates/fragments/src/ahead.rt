@@ -16,9 +16,10 @@ impl Places<'_> {
     fn strips_at(&self, s: usize) -> bool
         ensures { result ≡ strips_at (tokens_of self.now.tokens) self.now.text.now s }
     {
+        let tokens = self.tokens;
         let rest = part(self.text, s, self.text.len());
-        (0..self.tokens.contents.len()).any(|row| {
-            flag_at(self.tokens.lstrip, row) && starts_with(rest, self.tokens.contents.get(row))
+        (0..tokens.contents.len()).any(|row| {
+            flag_at(tokens.lstrip, row) && starts_with(rest, tokens.contents.get(row))
         })
     }
 

@@ -1,6 +1,6 @@
 // Where tokens that block end.
 ghost use Rattle.std.specs.Prelude.{◌≡◌, true, ◌||◌, ℕ, ◌+◌, ◌≤◌, eqb, ltb, length};
-ghost use Rattle.utf8.specs.Lists.{any, starts_with};
+ghost use Rattle.utf8.specs.Lists.{any};
 ghost use Rattle.model.specs.Model.{tokens_of};
 ghost use Rattle.fragments.specs.Safe.{makes_blocks};
 ghost use Rattle.fragments.specs.inner.Reach.{end_of, end_at, end_between};
@@ -22,16 +22,6 @@ fn holds_space(content: &[u8]) -> bool
     ensures { result ≡ any (λ (b : ℕ). eqb b 0x20 || eqb b 0xE2) content.now }
 {
     content.iter().any(|b| may_cut(*b))
-}
-
-// Whether the text begins with a content. Most contents differ from it in their first byte, and to compare two slices is a call.
-fn begins_with(text: &[u8], content: &[u8]) -> bool
-    ensures { result ≡ starts_with content.now text.now }
-{
-    if !content.is_empty() && !text.is_empty() && content[0] != text[0] {
-        return false;
-    }
-    starts_with(text, content)
 }
 
 // Whether a token at `s` can end beyond `far`.
@@ -59,7 +49,7 @@ impl Places<'_> {
             return 0;
         }
         let content = self.tokens.contents.get(row);
-        let stands = begins_with(part(self.text, s, self.text.len()), content);
+        let stands = starts_with(part(self.text, s, self.text.len()), content);
         if stands && self.is_blocking(content, flag_at(self.tokens.lstrip, row), right) {
             s + content.len()
         } else {
@@ -67,13 +57,14 @@ impl Places<'_> {
         }
     }
 
-    // The furthest such end of a token at `s`.
+    // The furthest such end of a token at `s`. The rows are read of a copy, which the compiler keeps in registers.
     fn end_at(&self, strip: bool, s: usize) -> usize
         ensures { result ≡ end_at self.now.unguarded (tokens_of self.now.tokens) self.now.text.now strip s }
     {
+        let places = *self;
         let mut far = 0;
-        for row in 0..self.tokens.contents.len() {
-            far = self.end_of(strip, s, row).max(far);
+        for row in 0..places.tokens.contents.len() {
+            far = places.end_of(strip, s, row).max(far);
         }
         far
     }

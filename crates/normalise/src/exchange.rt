@@ -3,6 +3,8 @@ ghost use Rattle.std.specs.Prelude.{◌≡◌, ℕ, ◌<◌, ◌≤◌, List, []
 ghost use Rattle.normalise.specs.inner.Fit.{Put, fitted, put};
 ghost use Rattle.normalise.specs.inner.Heads.{Head};
 
+use crate::copy::copy_at;
+
 // Which parts are exchanged, and for what.
 pub trait Exchange {
     ghost content: { Self → List ℕ };
@@ -32,18 +34,14 @@ fn exchanged_length<E: Exchange>(
 {
     let content = exchange.content();
     let mut left = room.checked_sub(lead.len())?;
-    let mut rest = text;
-    while let Some((_, others)) = rest.split_first() {
-        match exchange.found(rest) {
-            None => {
-                left = left.checked_sub(1)?;
-                rest = others;
-            }
-            Some(width) => {
-                left = left.checked_sub(content.len())?;
-                rest = &rest[width..];
-            }
-        }
+    let mut i = 0;
+    while i < text.len() {
+        let (put, passed) = match exchange.found(&text[i..]) {
+            None => (1, 1),
+            Some(width) => (content.len(), width),
+        };
+        left = left.checked_sub(put)?;
+        i += passed;
     }
     Some(room - left)
 }
@@ -53,21 +51,20 @@ fn write_exchanged<E: Exchange>(exchange: &E, lead: &[u8], text: &[u8], out: &mu
     ensures { out.new ≡ (lead.now ++ E.exchanged exchange.now text.now) ++ drop (length (lead.now ++ E.exchanged exchange.now text.now)) out.old }
 {
     let content = exchange.content();
+    copy_at(out, 0, lead);
     let mut at = lead.len();
-    out[..at].copy_from_slice(lead);
-    let mut rest = text;
-    while let Some((first, others)) = rest.split_first() {
-        match exchange.found(rest) {
+    let mut i = 0;
+    while i < text.len() {
+        match exchange.found(&text[i..]) {
             None => {
-                out[at] = *first;
+                out[at] = text[i];
                 at += 1;
-                rest = others;
+                i += 1;
             }
             Some(width) => {
-                let next = at + content.len();
-                out[at..next].copy_from_slice(content);
-                at = next;
-                rest = &rest[width..];
+                copy_at(out, at, content);
+                at += content.len();
+                i += width;
             }
         }
     }

@@ -4,6 +4,7 @@ ghost use Rattle.model.specs.Answers.{Outcome, answer_of};
 ghost use Rattle.normalise.specs.inner.Run.{standing, finished, ended};
 
 use crate::Ran;
+use crate::copy::copy_at;
 use model::{Counts, Refusal};
 
 // The result in the buffer, where it fits.
@@ -13,7 +14,7 @@ fn finish(res: &[u8], out: &mut [u8]) -> Result<Counts, Refusal>
     if out.len() < res.len() {
         return Err(Refusal::ResultTooShort);
     }
-    out[..res.len()].copy_from_slice(res);
+    copy_at(out, 0, res);
     out[res.len()..].fill(0);
     Ok(Counts {
         written: res.len(),

@@ -3,6 +3,7 @@
 #![tactic(auto)]
 
 mod collapse;
+mod copy;
 mod exchange;
 pub mod finish;
 pub mod metaspace;

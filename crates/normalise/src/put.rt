@@ -2,6 +2,8 @@
 ghost use Rattle.std.specs.Prelude.{◌≡◌, ◌++◌};
 ghost use Rattle.normalise.specs.inner.Fit.{Put, put};
 
+use crate::copy::copy_at;
+
 // `lead` and `text` behind it at the front of `out`, where there is room for both.
 pub fn put(lead: &[u8], text: &[u8], room: usize, out: &mut [u8]) -> Option<usize>
     ensures { ◌≡◌ {A = Put} (record { length = result; out = out.new }) (put (lead.now ++ text.now) room out.old) }
@@ -9,7 +11,7 @@ pub fn put(lead: &[u8], text: &[u8], room: usize, out: &mut [u8]) -> Option<usiz
     let space = room.min(out.len());
     let left = space.checked_sub(lead.len())?.checked_sub(text.len())?;
     let n = space - left;
-    out[..lead.len()].copy_from_slice(lead);
-    out[lead.len()..n].copy_from_slice(text);
+    copy_at(out, 0, lead);
+    copy_at(out, lead.len(), text);
     Some(n)
 }

@@ -4,6 +4,7 @@ ghost use Rattle.normalise.specs.Steps.{replaced};
 ghost use Rattle.normalise.specs.inner.Fit.{Put, fitted, put};
 ghost use Rattle.normalise.specs.inner.Heads.{replaced-none};
 
+use crate::copy::copy_at;
 use crate::exchange::{Exchange, put_exchanged};
 use utf8::chars::char_step;
 use utf8::edges::starts_with;
@@ -63,15 +64,13 @@ fn write_inserted(content: &[u8], text: &[u8], out: &mut [u8])
     let mut rest = text;
     while !rest.is_empty() {
         let (character, others) = rest.split_at(char_step(rest));
-        let middle = at + content.len();
-        out[at..middle].copy_from_slice(content);
-        let next = middle + character.len();
-        out[middle..next].copy_from_slice(character);
-        at = next;
+        copy_at(out, at, content);
+        at += content.len();
+        copy_at(out, at, character);
+        at += character.len();
         rest = others;
     }
-    let end = at + content.len();
-    out[at..end].copy_from_slice(content);
+    copy_at(out, at, content);
 }
 
 pub fn replace(

@@ -21,11 +21,23 @@ module _ {ℓ} {A : Type ℓ} where
   not-empty [] h = absurd (omega arith)
   not-empty (x ∷ l) h = refl
 
--- What a slice's `starts_with` tells.
+-- What the `==` of a slice and a text's front tells.
 pub starts_by_front : (p t : List ℕ) → pointwise eqb p (take (length p) t) ≡ starts_with p t
 starts_by_front [] t = refl
 starts_by_front (x ∷ p) [] = refl
 starts_by_front (x ∷ p) (y ∷ t) = ap (λ (b : Bool). eqb x y && b) (starts_by_front p t)
+
+-- What a slice's `==` tells.
+pub same_by_elements : (p q : List ℕ) → pointwise eqb p q ≡ same p q
+same_by_elements [] [] = refl
+same_by_elements [] (y ∷ q) = refl
+same_by_elements (x ∷ p) [] = refl
+same_by_elements (x ∷ p) (y ∷ q) = ap (λ (b : Bool). eqb x y && b) (same_by_elements p q)
+
+pub starts_short : (p t : List ℕ) → length t < length p → starts_with p t ≡ false
+starts_short [] t h = absurd (omega arith)
+starts_short (x ∷ p) [] h = refl
+starts_short (x ∷ p) (y ∷ t) h = rw (starts_short p t (omega arith)) (and-false (eqb x y))
 
 pub starts_length : (p t : List ℕ) → starts_with p t ≡ true → length p ≤ length t
 starts_length [] t e = omega arith

@@ -6,18 +6,55 @@ ghost use Rattle.utf8.specs.inner.Ends.{white_width, white_end};
 
 use super::chars::{char_width, last_width, number_of};
 
-// The characters that have the property White_Space: the first and the last code point of each range, since a constant can hold no `..=`.
-const WHITE_SPACE: [(u32, u32); 10] = [
-    (0x0009, 0x000D),
-    (0x0020, 0x0020),
-    (0x0085, 0x0085),
-    (0x00A0, 0x00A0),
-    (0x1680, 0x1680),
-    (0x2000, 0x200A),
-    (0x2028, 0x2029),
-    (0x202F, 0x202F),
-    (0x205F, 0x205F),
-    (0x3000, 0x3000),
+// Code points from low to high, both included. No `..=`: a constant can hold none.
+#[derive(Clone, Copy)]
+pub struct Range {
+    pub low: u32,
+    pub high: u32,
+}
+
+// The characters that have the property White_Space.
+const WHITE_SPACE: [Range; 10] = [
+    Range {
+        low: 0x0009,
+        high: 0x000D,
+    },
+    Range {
+        low: 0x0020,
+        high: 0x0020,
+    },
+    Range {
+        low: 0x0085,
+        high: 0x0085,
+    },
+    Range {
+        low: 0x00A0,
+        high: 0x00A0,
+    },
+    Range {
+        low: 0x1680,
+        high: 0x1680,
+    },
+    Range {
+        low: 0x2000,
+        high: 0x200A,
+    },
+    Range {
+        low: 0x2028,
+        high: 0x2029,
+    },
+    Range {
+        low: 0x202F,
+        high: 0x202F,
+    },
+    Range {
+        low: 0x205F,
+        high: 0x205F,
+    },
+    Range {
+        low: 0x3000,
+        high: 0x3000,
+    },
 ];
 
 pub fn is_white_space(code: u32) -> bool
@@ -25,7 +62,7 @@ pub fn is_white_space(code: u32) -> bool
 {
     WHITE_SPACE
         .iter()
-        .any(|(low, high)| (*low..=*high).contains(&code))
+        .any(|range| (range.low..=range.high).contains(&code))
 }
 
 // The width of the White_Space character at the head of s, 0 where none stands there (as `chars::char_width`).

@@ -1,15 +1,9 @@
--- `encode::encode` meets its contract: the text's size, the model check, what is derived of the model, and then the accepted model.
+-- `encode::encode` meets its contract: the text's size, the model check, and then the accepted model.
 use Rattle.std.proofs.lemmas.Result.{err_from_is_err_and}
-use Prim.Native.Nat.{ℕ}
-use native.Mathlib.Omega.{arith}
-use mathlib.Core.Path.{◌≡◌, refl, sym, ap, ◌∙◌}
-use lib.ListN.{length-replicate}
+use mathlib.Core.Path.{◌≡◌, refl, sym}
 use Rattle.model.specs.Check.{check_number}
 use Rattle.model.specs.Model.{columns}
 use Rattle.model.proofs.AnswerLaws.{number-checked, refusal_number}
-use Rattle.prepare.specs.Prepare.{PrepareOutcome}
-use Rattle.prepare.proofs.PrepareLaws.{prepared}
-use Rattle.prepare.proofs.PreparedLaws.{rows_derived, index_derived}
 use Rattle.encode.proofs.EncodeLaws.{Lent, long_text, bad_model}
 use Rattle.encode.proofs.encode.Goals as goal
 use Rattle.encode.proofs.encode.Goals.{In_ok-check, Start}
@@ -36,21 +30,5 @@ returns-in_err-check c =
     let p = err_from_is_err_and c.from_residual.result c.from_residual.ensures.1 in
     rw (p.1, p.2) (bad_model (lent (goal.at.returns-in_err-check c).Start) _ c.in_err-check.ensures c.if-text-gt-TEXT_LIMIT.false (refusal_number c.in_err-check.field-0.0))
 
-pub prepare_checked-requires : goal.prepare_checked-requires
-prepare_checked-requires c = fine (goal.at.prepare_checked-requires c).In_ok-check
-
-pub returns-in_err-prepare_checked : goal.returns-in_err-prepare_checked
-returns-in_err-prepare_checked c =
-    let e = fine (goal.at.returns-in_err-prepare_checked c).In_ok-check in
-    let long = prepared (columns c.args.model.now) _ _ e (omega (arith, length-replicate {A = ℕ} 1024 0)) (omega (arith, length-replicate {A = ℕ} 169032 0)) in
-    absurd (refusal_number c.in_err-prepare_checked.field-0.0 (ap (λ (o : PrepareOutcome). o.answer.number) (c.in_err-prepare_checked.ensures ∙ long)))
-
-pub invariant_of-encode_short : goal.invariant_of-encode_short
-invariant_of-encode_short c =
-    let m = columns c.args.model.now in
-    let e = fine (goal.at.invariant_of-encode_short c).In_ok-check in
-    record {
-      accepted = e;
-      adjacency_derived = rows_derived m e _ _ (length-replicate {A = ℕ} 1024 0) (length-replicate {A = ℕ} 169032 0) c.prepare_checked.ensures;
-      index_derived = index_derived m e _ _ (length-replicate {A = ℕ} 1024 0) (length-replicate {A = ℕ} 169032 0) c.prepare_checked.ensures;
-    }
+pub encode_derived-requires-clause-accepted : goal.encode_derived-requires-clause-accepted
+encode_derived-requires-clause-accepted c = fine (goal.at.encode_derived-requires-clause-accepted c).In_ok-check

@@ -1,10 +1,10 @@
 -- `normalise::exchange::write_exchanged` meets its contract. The loop's invariant: the output of what was passed is written.
-use Rattle.std.proofs.Common.{◌++◌, length}
+use Rattle.std.proofs.Common.{◌≤◌, ◌-◌, ◌++◌, length, drop}
 use Rattle.utf8.proofs.Writing.{Written}
 use Rattle.normalise.proofs.exchange.write_exchanged.Given as goal
 
-abbrev pub invariant-loop-first : goal.invariant-loop-first
-invariant-loop-first g l = Written (l.lead ++ g.E.Exchange.exchanged l.exchange l.text) (g.E.Exchange.exchanged l.exchange l.rest) l.fn.out l.out l.at
+abbrev pub invariant-loop-i : goal.invariant-loop-i
+invariant-loop-i g l = (l.i ≤ length l.text) × Written (l.lead ++ g.E.Exchange.exchanged l.exchange l.text) (g.E.Exchange.exchanged l.exchange (drop l.i l.text)) l.fn.out l.out l.at
 
-abbrev pub decreases-loop-first : goal.decreases-loop-first
-decreases-loop-first g l = length l.rest
+abbrev pub decreases-loop-i : goal.decreases-loop-i
+decreases-loop-i g l = length l.text - l.i

@@ -13,4 +13,4 @@ returns-in_err-left c = rw c.from_residual-in_err-left.ensures (put_over _ c.arg
 pub returns : goal.returns
 returns c =
     put_done _ c.args.room c.args.out.now (omega (arith, c.in_ok-checked_sub.ensures, c.in_ok-left.ensures, length-append {A = ℕ})) (omega (arith, c.in_ok-checked_sub.ensures, c.in_ok-left.ensures, c.min-space.ensures, length-append {A = ℕ}))
-    (both_copied c.args.lead.now c.args.text.now c.args.out.now c.copy_from_slice.ensures.after c.copy_from_slice-2.ensures.after (omega (arith, c.in_ok-checked_sub.ensures, c.in_ok-left.ensures)))
+    (both_copied c.args.lead.now c.args.text.now c.args.out.now c.copy_at.ensures c.copy_at-2.ensures)
