@@ -62,7 +62,7 @@ fn run_on_path(rt: &HostRuntime, options: Options, i: usize) -> io::Result<()> {
             Ok(())
         }
         Err(error) => {
-            output::fail(errors, path, error)?;
+            let _ = output::fail(errors, path, error);
             help::not_ok(errors, "nothing was read")
         }
     }

@@ -1,7 +1,8 @@
-// What a run writes to.
-use std::fmt::Display;
-use std::io;
+// What a run writes to. A stream that fails once may take what comes next, and then at least the row's end has to stand there, so that the next row
+// begins on a line of its own. So a write that fails ends no row: each is tried, and the last one's answer is the row's.
+use std::fmt::{Display, Write as _};
 use std::io::{Stderr, Stdout, Write};
+use std::{fmt, io};
 
 #[derive(Clone, Copy)]
 pub(crate) enum Stream {
@@ -9,19 +10,33 @@ pub(crate) enum Stream {
     Errors(Stderr),
 }
 
+// What is printed goes out piece by piece, a word or a number at a time.
+#[derive(Drop)]
+struct Pieces {
+    to: Stream,
+    wrote: io::Result<()>,
+}
+
+impl fmt::Write for Pieces {
+    fn write_str(&mut self, piece: &str) -> fmt::Result {
+        self.wrote = self.to.write_all(piece.as_bytes());
+        Ok(())
+    }
+}
+
 impl Print for Stream {
     fn print<D: Display + Drop>(&self, value: D) -> io::Result<()> {
-        match self {
-            Stream::Output(output) => output.print(value),
-            Stream::Errors(errors) => errors.print(value),
-        }
+        let mut pieces = Pieces {
+            to: *self,
+            wrote: Ok(()),
+        };
+        let _ = write!(pieces, "{value}");
+        pieces.wrote
     }
 
     fn println<D: Display + Drop>(&self, value: D) -> io::Result<()> {
-        match self {
-            Stream::Output(output) => output.println(value),
-            Stream::Errors(errors) => errors.println(value),
-        }
+        let _ = self.print(value);
+        self.write_all(b"\n")
     }
 
     fn write_all(&self, bytes: &[u8]) -> io::Result<()> {
@@ -48,8 +63,8 @@ pub(crate) fn fail(to: Stream, what: &[u8], error: io::Error) -> io::Result<()> 
     let mut text = [0u8; 128];
     let mut room = &mut text[..];
     let _ = write!(room, "{error}");
-    Print::write_all(&to, what)?;
-    print!(to; ": ")?;
-    Print::write_all(&to, words(&text))?;
+    let _ = Print::write_all(&to, what);
+    let _ = print!(to; ": ");
+    let _ = Print::write_all(&to, words(&text));
     println!(to;)
 }

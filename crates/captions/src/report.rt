@@ -22,8 +22,8 @@ pub(crate) fn model_refused(
     model: &Model<'_>,
     refusal: Refusal,
 ) -> io::Result<()> {
-    print!(to; "not ok: ")?;
-    model_sizes(to, job, model)?;
+    let _ = print!(to; "not ok: ");
+    let _ = model_sizes(to, job, model);
     println!(to; "refused: {} ({})", Reason::Call(refusal), refusal.number())
 }
 
@@ -31,11 +31,11 @@ pub(crate) fn model_refused(
 pub(crate) fn model_accepted(to: Stream, job: Job<'_>, model: &Model<'_>) -> io::Result<()> {
     match job.command {
         Command::Show => {
-            model_sizes(to, job, model)?;
+            let _ = model_sizes(to, job, model);
             println!(to; "accepted\n")
         }
         Command::Check => {
-            model_sizes(to, job, model)?;
+            let _ = model_sizes(to, job, model);
             println!(to; "accepted (0)")
         }
         _ => Ok(()),
@@ -70,10 +70,10 @@ pub(crate) fn encoded(
         if job.bare {
             return tell::numbers(job.output, ids);
         }
-        tell::text_line(job.output, line, text)?;
+        let _ = tell::text_line(job.output, line, text);
     }
-    print!(job.output; "  ids      ")?;
-    tell::ids_with_pieces(job.output, pieces, ids)?;
+    let _ = print!(job.output; "  ids      ");
+    let _ = tell::ids_with_pieces(job.output, pieces, ids);
     println!(job.output;
         "  dropped   {} characters that the model has no piece for",
         counts.drops
@@ -84,8 +84,8 @@ pub(crate) fn cut(job: Job<'_>, line: usize, text: &[u8], ranges: &[u32]) -> io:
     if job.bare {
         return tell::numbers(job.output, ranges);
     }
-    tell::text_line(job.output, line, text)?;
-    print!(job.output; "  fragments")?;
+    let _ = tell::text_line(job.output, line, text);
+    let _ = print!(job.output; "  fragments");
     tell::ranges(job.output, text, ranges)
 }
 
@@ -99,8 +99,8 @@ pub(crate) fn decoded(
 ) -> io::Result<()> {
     match job.command {
         Command::Show => {
-            print!(job.output; "  decoded   ")?;
-            job.output.write_all(back)?;
+            let _ = print!(job.output; "  decoded   ");
+            let _ = job.output.write_all(back);
             println!(job.output; "\n")
         }
         Command::Check => compared(job, line, text, back),
@@ -120,10 +120,10 @@ fn compared(job: Job<'_>, line: usize, text: &[u8], back: &[u8]) -> io::Result<(
 }
 
 fn told_change(to: Stream, line: usize, text: &[u8], back: &[u8]) -> io::Result<()> {
-    println!(to; "line {line}: changed")?;
-    print!(to; "  given      ")?;
-    tell::row_of_text(to, text)?;
-    print!(to; "  comes back ")?;
+    let _ = println!(to; "line {line}: changed");
+    let _ = print!(to; "  given      ");
+    let _ = tell::row_of_text(to, text);
+    let _ = print!(to; "  comes back ");
     tell::row_of_text(to, back)
 }
 
@@ -132,9 +132,9 @@ pub(crate) fn written(job: Job<'_>, line: usize, counts: Counts, text: &[u8]) ->
     if job.bare {
         return tell::row_of_text(job.output, text);
     }
-    tell::text_line(job.output, line, text)?;
+    let wrote = tell::text_line(job.output, line, text);
     if counts.skips == 0 {
-        return Ok(());
+        return wrote;
     }
     println!(job.output;
         "  skipped   {} ids that the model has no piece for",

@@ -60,30 +60,29 @@ impl Tally {
             && self.changed == 0
     }
 
-    fn verdict(&self, failed: bool) -> &'static str {
+    // It is in two pieces, of which the second may be nothing.
+    fn verdict(&self, failed: bool) -> (&'static str, &'static str) {
         if failed {
-            "not ok: reading failed, so that lines are missing: "
+            ("not ok: reading failed, so that lines are missing: ", "")
         } else if self.is_well() {
-            "ok: "
+            ("ok: ", "")
         } else if self.unwritten {
-            "not ok: standard output did not take all: "
+            ("not ok: ", "standard output did not take all: ")
         } else {
-            "not ok: "
+            ("not ok: ", "")
         }
     }
 
     // The last line of every run that has a model.
     pub(crate) fn tell(&self, to: Stream, command: Command, failed: bool) -> io::Result<()> {
-        print!(to;
-            "{}lines {}, refused {}, characters dropped {}, ids skipped {}",
-            self.verdict(failed),
-            self.lines,
-            self.refused,
-            self.drops,
-            self.skips
-        )?;
+        let (verdict, why) = self.verdict(failed);
+        let _ = print!(to; "{verdict}{why}");
+        let _ = print!(to;
+            "lines {}, refused {}, characters dropped {}, ids skipped {}",
+            self.lines, self.refused, self.drops, self.skips
+        );
         if command.goes_back() {
-            print!(to; ", lines changed on the way back {}", self.changed)?;
+            let _ = print!(to; ", lines changed on the way back {}", self.changed);
         }
         println!(to;)
     }

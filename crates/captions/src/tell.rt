@@ -94,12 +94,12 @@ pub(crate) fn remarks(job: Job<'_>) -> Stream {
 }
 
 pub(crate) fn text_line(to: Stream, line: usize, text: &[u8]) -> io::Result<()> {
-    print!(to; "line {line}: ")?;
+    let _ = print!(to; "line {line}: ");
     row_of_text(to, text)
 }
 
 pub(crate) fn row_of_text(to: Stream, text: &[u8]) -> io::Result<()> {
-    to.write_all(text)?;
+    let _ = to.write_all(text);
     println!(to;)
 }
 
@@ -113,8 +113,8 @@ fn piece(to: Stream, text: &[u8]) -> io::Result<()> {
 
 pub(crate) fn ids_with_pieces(to: Stream, pieces: &Strings<'_>, ids: &[u32]) -> io::Result<()> {
     for id in ids {
-        print!(to; " {id}:")?;
-        piece(to, pieces.get(*id as usize))?;
+        let _ = print!(to; " {id}:");
+        let _ = piece(to, pieces.get(*id as usize));
     }
     println!(to;)
 }
@@ -123,9 +123,9 @@ pub(crate) fn ids_with_pieces(to: Stream, pieces: &Strings<'_>, ids: &[u32]) -> 
 pub(crate) fn numbers(to: Stream, row: &[u32]) -> io::Result<()> {
     for (i, number) in row.iter().enumerate() {
         if 0 < i {
-            print!(to; " ")?;
+            let _ = to.write_all(b" ");
         }
-        print!(to; "{number}")?;
+        let _ = to.print(*number);
     }
     println!(to;)
 }
@@ -139,9 +139,9 @@ pub(crate) fn checked(to: Stream, number: u32, place: usize, changed: bool) -> i
 pub(crate) fn ranges(to: Stream, text: &[u8], row: &[u32]) -> io::Result<()> {
     for range in row.chunks_exact(2) {
         let [start, end] = range else { break };
-        print!(to; " {start}..{end} '")?;
-        to.write_all(part(text, *start as usize, *end as usize))?;
-        print!(to; "'")?;
+        let _ = print!(to; " {start}..{end} '");
+        let _ = to.write_all(part(text, *start as usize, *end as usize));
+        let _ = print!(to; "'");
     }
     println!(to;)
 }
