@@ -29,7 +29,7 @@ def source_of(function):
     folder = ROOT / "crates" / crate
     source = folder / "src" / ("/".join(modules) + ".rt" if modules else "lib.rt")
     if modules and modules[-1][0].isupper():
-        method = re.compile(rf"^impl\b[^\n]*\b{modules[-1]}\b.*?^    (?:pub(?:\(crate\))? )?fn {name}\b", re.M | re.S)
+        method = re.compile(rf"^impl\b[^\n]*\b{modules[-1]}\b(?:(?!^\}}).)*?^    (?:pub(?:\(crate\))? )?fn {name}\b", re.M | re.S)
         source = next((file for file in sorted((folder / "src").rglob("*.rt")) if method.search(file.read_text())), source)
     proofs = [folder / "proofs" / "/".join(modules) / name / file for file in PROOFS]
     return source, name, next((proof for proof in proofs if proof.is_file()), source)

@@ -3,9 +3,9 @@
 
     tools/statements.py [--forms]
 
-Reads every `pub fn`, `pub extern "C" fn` and `pub(crate) fn` of the library crates. Each has one row in its crate's tables, which
-cites definitions that the function's `ensures` names, gives two wrong answers, and names what shows it: an edit of some crate's
-must-fail folder, or the contract. Each contract settles the result and every cell lent as `&mut`, or the page lists what it leaves
+Reads every `pub fn`, `pub extern "C" fn` and `pub(crate) fn` of the library crates, and every function of their traits. Each has one
+row in its crate's tables, which cites definitions that the function's `ensures` names, gives two wrong answers, and names what shows
+it: an edit of some crate's must-fail folder, or the contract. Each contract settles the result and every cell lent as `&mut`, or the page lists what it leaves
 open. A contract settles what stands by itself on the left of an equation, or under a view that theorems/specs/Settled.antt shows
 injective, where the right side is computed from what was there before. --forms also tells how many contracts have which form.
 Prints what is wrong and exits with 1 if there is anything.
@@ -23,6 +23,8 @@ CRATES = "utf8 model index normalise units merge sections records prepare stretc
 PAGE = ROOT / "docs" / "STATEMENTS.md"
 LAWS = ROOT / "crates" / "theorems" / "specs" / "Settled.antt"
 FUNCTION = re.compile(r'^( *)pub(?:\(crate\))? (?:extern "C" )?fn (\w+)', re.M)
+TRAIT = re.compile(r"^pub(?:\(crate\))? trait (\w+)[^\n]*\{\n(.*?)^\}", re.M | re.S)
+TRAIT_FUNCTION = re.compile(r"^    fn (\w+)", re.M)
 CLAUSE = re.compile(r"(?:\b(requires|ensures)(?: \w+)? )?\{")
 ROWS = "| function | promise | definition | two wrong answers it rules out | shown by |"
 OPEN = "| function | left open | why |"
@@ -68,7 +70,7 @@ class Function:
         self.sought = (["result"] if answer else []) + self.lent
         self.ensures = []
         clause = CLAUSE.search(text, stop)
-        while clause[1]:
+        while clause[1] and ";\n" not in text[stop:clause.start()]:  # a trait's function has no body behind its clauses
             stop = closed(text, clause.end() - 1)
             if clause[1] == "ensures":
                 self.ensures.append(" ".join(text[clause.end():stop].split()))
@@ -167,6 +169,10 @@ def functions():
                 owner = re.findall(r"^impl(?:<[^>]*>)? (\w+)(?:<[^>]*>)? \{|^\}", text[:match.start()], re.M)[-1:] if match[1] else []
                 path = "::".join(module + [word for word in owner if word] + [match[2]])
                 found[crate, path] = Function(crate, path, text, match.end(), fields)
+            for trait in TRAIT.finditer(text):
+                for match in TRAIT_FUNCTION.finditer(text, trait.start(2), trait.end(2)):
+                    path = "::".join(module + [trait[1], match[1]])
+                    found[crate, path] = Function(crate, path, text, match.end(), fields)
     return found
 
 
