@@ -51,7 +51,7 @@ pub(crate) fn tell_wrong(env: &impl Env, to: Stream, i: usize) -> io::Result<()>
     let length = argument(env, i, &mut word);
     let _ = print!(to; "not ok: '");
     let _ = to.write_all(&word[..length]);
-    println!(to; "' is not understood; captions --help says what is")
+    print!(to; "' is not understood; captions --help says what is\n")
 }
 
 pub(crate) fn not_ok(to: Stream, why: &str) -> io::Result<()> {

@@ -10,7 +10,8 @@ pub(crate) enum Stream {
     Errors(Stderr),
 }
 
-// What is printed goes out piece by piece, a word or a number at a time.
+// What is printed goes out piece by piece, a word or a number at a time. Where a row ends with words, its `\n` is a part of them, so that they decide
+// whether the row was taken.
 #[derive(Drop)]
 struct Pieces {
     to: Stream,

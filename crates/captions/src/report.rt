@@ -24,7 +24,11 @@ pub(crate) fn model_refused(
 ) -> io::Result<()> {
     let _ = print!(to; "not ok: ");
     let _ = model_sizes(to, job, model);
-    println!(to; "refused: {} ({})", Reason::Call(refusal), refusal.number())
+    print!(to;
+        "refused: {} ({})\n",
+        Reason::Call(refusal),
+        refusal.number()
+    )
 }
 
 // Says that the model was accepted, where that was asked for.
@@ -32,11 +36,11 @@ pub(crate) fn model_accepted(to: Stream, job: Job<'_>, model: &Model<'_>) -> io:
     match job.command {
         Command::Show => {
             let _ = model_sizes(to, job, model);
-            println!(to; "accepted\n")
+            print!(to; "accepted\n\n")
         }
         Command::Check => {
             let _ = model_sizes(to, job, model);
-            println!(to; "accepted (0)")
+            print!(to; "accepted (0)\n")
         }
         _ => Ok(()),
     }
@@ -45,7 +49,8 @@ pub(crate) fn model_accepted(to: Stream, job: Job<'_>, model: &Model<'_>) -> io:
 // Programs get an empty row, but by `check` the number and place.
 pub(crate) fn refused(job: Job<'_>, line: usize, reason: Reason) -> io::Result<()> {
     let number = reason.number();
-    let _ = println!(tell::remarks(job); "line {line}: refused: {reason} ({number})");
+    let _ = print!(tell::remarks(job); "line {line}: ");
+    let _ = print!(tell::remarks(job); "refused: {reason} ({number})\n");
     if !job.bare {
         return Ok(());
     }
@@ -74,8 +79,8 @@ pub(crate) fn encoded(
     }
     let _ = print!(job.output; "  ids      ");
     let _ = tell::ids_with_pieces(job.output, pieces, ids);
-    println!(job.output;
-        "  dropped   {} characters that the model has no piece for",
+    print!(job.output;
+        "  dropped   {} characters that the model has no piece for\n",
         counts.drops
     )
 }
@@ -101,7 +106,7 @@ pub(crate) fn decoded(
         Command::Show => {
             let _ = print!(job.output; "  decoded   ");
             let _ = job.output.write_all(back);
-            println!(job.output; "\n")
+            print!(job.output; "\n\n")
         }
         Command::Check => compared(job, line, text, back),
         _ => written(job, line, counts, back),
@@ -136,8 +141,8 @@ pub(crate) fn written(job: Job<'_>, line: usize, counts: Counts, text: &[u8]) ->
     if counts.skips == 0 {
         return wrote;
     }
-    println!(job.output;
-        "  skipped   {} ids that the model has no piece for",
+    print!(job.output;
+        "  skipped   {} ids that the model has no piece for\n",
         counts.skips
     )
 }

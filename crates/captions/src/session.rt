@@ -42,7 +42,7 @@ fn all_lines(model: &Checked<'_>, job: Job<'_>) {
         .tell(tell::remarks(job), job.command, lines.has_failed())
         .is_err()
     {
-        let _ = println!(job.errors; "not ok: standard output did not take all");
+        let _ = print!(job.errors; "not ok: standard output did not take all\n");
     }
 }
 

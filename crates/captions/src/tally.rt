@@ -27,7 +27,7 @@ impl Tally {
         self.bytes = self.bytes.saturating_add(bytes).saturating_add(1);
         let done = self.bytes / MIB;
         if before < done {
-            let _ = println!(errors; "captions: {done} MiB done, {} lines", self.lines);
+            let _ = print!(errors; "captions: {done} MiB done, {} lines\n", self.lines);
         }
     }
 

@@ -132,7 +132,11 @@ pub(crate) fn numbers(to: Stream, row: &[u32]) -> io::Result<()> {
 
 // What programs get of a line by `check`: the number of its refusal, the place, and whether it comes back as another.
 pub(crate) fn checked(to: Stream, number: u32, place: usize, changed: bool) -> io::Result<()> {
-    println!(to; "{number} {place} {}", changed as u8)
+    if changed {
+        print!(to; "{number} {place} 1\n")
+    } else {
+        print!(to; "{number} {place} 0\n")
+    }
 }
 
 // Pairs of numbers as ranges of the text.
