@@ -24,11 +24,7 @@ pub(crate) fn model_refused(
 ) -> io::Result<()> {
     let _ = print!(to; "not ok: ");
     let _ = model_sizes(to, job, model);
-    print!(to;
-        "refused: {} ({})\n",
-        Reason::Call(refusal),
-        refusal.number()
-    )
+    print!(to; "{}", Reason::Call(refusal))
 }
 
 // Says that the model was accepted, where that was asked for.
@@ -48,14 +44,12 @@ pub(crate) fn model_accepted(to: Stream, job: Job<'_>, model: &Model<'_>) -> io:
 
 // Programs get an empty row, but by `check` the number and place.
 pub(crate) fn refused(job: Job<'_>, line: usize, reason: Reason) -> io::Result<()> {
-    let number = reason.number();
-    let _ = print!(tell::remarks(job); "line {line}: ");
-    let _ = print!(tell::remarks(job); "refused: {reason} ({number})\n");
+    let _ = print!(tell::remarks(job); "line {line}: {reason}");
     if !job.bare {
         return Ok(());
     }
     if job.command == Command::Check {
-        return tell::checked(job.output, number, reason.place(), false);
+        return tell::checked(job.output, reason.number(), reason.place(), false);
     }
     println!(job.output;)
 }
@@ -125,10 +119,10 @@ fn compared(job: Job<'_>, line: usize, text: &[u8], back: &[u8]) -> io::Result<(
 }
 
 fn told_change(to: Stream, line: usize, text: &[u8], back: &[u8]) -> io::Result<()> {
-    let _ = println!(to; "line {line}: changed");
-    let _ = print!(to; "  given      ");
-    let _ = tell::row_of_text(to, text);
-    let _ = print!(to; "  comes back ");
+    let _ = print!(to; "line {line}: ");
+    let _ = print!(to; "changed\n  given      ");
+    let _ = to.write_all(text);
+    let _ = print!(to; "\n  comes back ");
     tell::row_of_text(to, back)
 }
 

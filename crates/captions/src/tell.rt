@@ -5,6 +5,7 @@ use crate::output::Stream;
 use model::tables::part;
 use model::{Refusal, Strings};
 use std::fmt::Display;
+use std::io::Write as _;
 use std::{fmt, io};
 
 // Why a line is refused.
@@ -41,50 +42,51 @@ impl Reason {
     }
 }
 
+// What a call's refusal says.
+fn words(refusal: Refusal) -> &'static str {
+    match refusal {
+        Refusal::WrongSize => {
+            "something is longer than its limit, or columns of a table differ in length"
+        }
+        Refusal::OffsetsAstray => "the model's offsets do not fit its bytes",
+        Refusal::BadPiece => "a piece of the model is neither valid UTF-8 nor a single byte",
+        Refusal::BadLookup => "the model's lookup list is not in byte order, or misses a piece",
+        Refusal::BadFallback => "a fallback id of the model is not the piece of its byte",
+        Refusal::BadRow => "a merge row of the model is out of order, or does not join its sides",
+        Refusal::BadToken => "a token of the model is empty or not valid UTF-8",
+        Refusal::BadStep => "a string of the model's steps is not valid UTF-8",
+        Refusal::BadText { .. } => "the text is not valid UTF-8",
+        Refusal::NoRawPath => "the model has no raw path, which fragments need",
+        Refusal::ScratchTooShort => {
+            "a step makes the line longer than captions has room for: break it"
+        }
+        Refusal::ResultTooShort => {
+            "the result is longer than captions has room for: break the line"
+        }
+    }
+}
+
+const NO_IDS: &str = "the line is not a row of ids, numbers up to 4294967295 and spaces,";
+
+// The end of a row: why, and the reason's number in brackets.
 impl Display for Reason {
     fn fmt<W: fmt::Write>(&self, f: &mut fmt::Formatter<W>) -> fmt::Result {
         match self {
-            Reason::NoIds { place } => write!(
-                f,
-                "the line is not a row of ids, numbers up to 4294967295 and spaces, from byte {place} on"
-            ),
-            Reason::TooLong => write!(f, "a line has at most {LONGEST} bytes: break it"),
-            Reason::Call(refusal) => match refusal {
-                Refusal::WrongSize => f.write_str(
-                    "something is longer than its limit, or columns of a table differ in length",
-                ),
-                Refusal::OffsetsAstray => f.write_str("the model's offsets do not fit its bytes"),
-                Refusal::BadPiece => f.write_str(
-                    "a piece of the model is neither valid UTF-8 nor a single byte",
-                ),
-                Refusal::BadLookup => f.write_str(
-                    "the model's lookup list is not in byte order, or misses a piece",
-                ),
-                Refusal::BadFallback => f.write_str(
-                    "a fallback id of the model is not the piece of its byte",
-                ),
-                Refusal::BadRow => f.write_str(
-                    "a merge row of the model is out of order, or does not join its sides",
-                ),
-                Refusal::BadToken => f.write_str(
-                    "a token of the model is empty or not valid UTF-8",
-                ),
-                Refusal::BadStep => f.write_str("a string of the model's steps is not valid UTF-8"),
-                Refusal::BadText { place } => write!(
+            Reason::TooLong => {
+                return write!(
                     f,
-                    "the text is not valid UTF-8 from byte {place} on"
-                ),
-                Refusal::NoRawPath => f.write_str(
-                    "the model has no raw path, which fragments need",
-                ),
-                Refusal::ScratchTooShort => f.write_str(
-                    "a step makes the line longer than captions has room for: break it",
-                ),
-                Refusal::ResultTooShort => f.write_str(
-                    "the result is longer than captions has room for: break the line",
-                ),
-            },
+                    "refused: a line has at most {LONGEST} bytes: break it (1)\n"
+                );
+            }
+            Reason::NoIds { place } => write!(f, "refused: {NO_IDS} from byte {place} on")?,
+            Reason::Call(refusal @ Refusal::BadText { place }) => write!(
+                f,
+                "refused: {} from byte {place} on",
+                words(*refusal)
+            )?,
+            Reason::Call(refusal) => write!(f, "refused: {}", words(*refusal))?,
         }
+        write!(f, " ({})\n", self.number())
     }
 }
 
@@ -106,9 +108,19 @@ pub(crate) fn row_of_text(to: Stream, text: &[u8]) -> io::Result<()> {
 // A byte that is no character alone, or that moves the cursor, is written as its number.
 fn piece(to: Stream, text: &[u8]) -> io::Result<()> {
     match text {
-        [byte] if !(33..=126).contains(byte) => print!(to; "<{byte:02x}>"),
+        [byte] if !(33..=126).contains(byte) => byte_number(to, *byte),
         _ => to.write_all(text),
     }
+}
+
+// Both digits go out in one write: a print would part them.
+fn byte_number(to: Stream, byte: u8) -> io::Result<()> {
+    let mut digits = [0u8; 2];
+    let mut room = &mut digits[..];
+    let _ = write!(room, "{byte:02x}");
+    let _ = to.write_all(b"<");
+    let _ = to.write_all(&digits);
+    to.write_all(b">")
 }
 
 pub(crate) fn ids_with_pieces(to: Stream, pieces: &Strings<'_>, ids: &[u32]) -> io::Result<()> {
