@@ -28,12 +28,13 @@ pub(crate) enum Part {
     Call,
 }
 
+// With the words that lead to a place in it.
 impl Display for Buffer {
     fn fmt<W: fmt::Write>(&self, f: &mut Formatter<W>) -> fmt::Result {
         match self {
-            Buffer::Result => f.write_str("the result"),
-            Buffer::FirstScratch => f.write_str("the first scratch"),
-            Buffer::SecondScratch => f.write_str("the second scratch"),
+            Buffer::Result => f.write_str("the result at "),
+            Buffer::FirstScratch => f.write_str("the first scratch at "),
+            Buffer::SecondScratch => f.write_str("the second scratch at "),
         }
     }
 }
@@ -46,7 +47,7 @@ impl Display for Part {
             Part::Written => f.write_str("the answer's written"),
             Part::Drops => f.write_str("the answer's drops"),
             Part::Skips => f.write_str("the answer's skips"),
-            Part::Cell(buffer, at) => write!(f, "{buffer} at {at}"),
+            Part::Cell(buffer, at) => write!(f, "{buffer}{at}"),
             Part::Room => f.write_str("the longest buffer"),
             Part::Call => f.write_str("the last call's number"),
         }

@@ -4,6 +4,7 @@ ghost use Rattle.std.specs.Prelude.{◌≤◌, IfOk};
 use crate::sample::{Sample, between, sum_of, unpack, unpack_flags, word_at};
 use crate::{report, rows};
 use std::io;
+use std::io::Stdout;
 
 // A sample begins with its name and this head.
 const NAME: &[u8; 16] = b"varitmol replay1";
@@ -67,7 +68,7 @@ fn whole(
 }
 
 pub(crate) fn replay(
-    rt: &impl Print,
+    to: &mut Stdout,
     input: &[u8],
     numbers: &mut [u32],
     flags: &mut [bool],
@@ -75,14 +76,14 @@ pub(crate) fn replay(
     let head = head_of(input);
     let flag_bytes = between(input, head.bytes_end, head.flags_end);
     if let Err(why) = whole(input, head, flag_bytes.len(), numbers.len(), flags.len()) {
-        return println!(rt; "{why}");
+        return println!(to; "{why}");
     }
     if sum_of(between(input, SUMMED, input.len())) != head.sum {
-        println!(rt; "the sample was changed: it has not the sum that it says")?;
+        println!(to; "the sample was changed: it has not the sum that it says")?;
     }
     let numbers = &mut numbers[..head.numbers];
     if !unpack(between(input, head.flags_end, input.len()), numbers).is_empty() {
-        println!(rt; "the sample was changed: its numbers do not end where it does")?;
+        println!(to; "the sample was changed: its numbers do not end where it does")?;
     }
     unpack_flags(flag_bytes, flags);
     let sample = Sample {
@@ -90,6 +91,6 @@ pub(crate) fn replay(
         numbers,
         flags,
     };
-    let tally = rows::replay_rows(rt, &sample, head.rows)?;
-    report::tell(rt, tally)
+    let tally = rows::replay_rows(to, &sample, head.rows)?;
+    report::tell(to, tally)
 }

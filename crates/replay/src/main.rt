@@ -60,5 +60,5 @@ fn main(rt: HostRuntime) -> io::Result<()> {
     let mut numbers: [u32; NUMBERS] = buffer(0);
     let mut flags: [bool; FLAGS] = buffer(false);
     let size = read_full(&mut rt.stdin(), &mut input)?;
-    head::replay(&rt, &input[..size], &mut numbers, &mut flags)
+    head::replay(&mut rt.stdout(), &input[..size], &mut numbers, &mut flags)
 }

@@ -4,6 +4,7 @@ ghost use Rattle.std.specs.Prelude.{◌<◌};
 use crate::calls::Call;
 use crate::compare::Difference;
 use std::io;
+use std::io::Write;
 
 // How many cases agreed, by their call, and how many did not.
 #[derive(Clone, Copy, Default)]
@@ -46,7 +47,7 @@ impl Tally {
 
 // Counts what came of a case, and tells the first that differs.
 pub(crate) fn count(
-    rt: &impl Print,
+    to: &mut impl Write,
     tally: &mut Tally,
     call: Option<Call>,
     outcome: Result<(), Difference>,
@@ -61,7 +62,7 @@ pub(crate) fn count(
         Err(difference) => {
             tally.count_other();
             if tally.differ == 1 {
-                tell_difference(rt, tally.cases(), call, difference)?;
+                tell_difference(to, tally.cases(), call, difference)?;
             }
             Ok(())
         }
@@ -70,7 +71,7 @@ pub(crate) fn count(
 
 // The first case that differs, the `case`-th of the sample.
 fn tell_difference(
-    rt: &impl Print,
+    to: &mut impl Write,
     case: u64,
     call: Option<Call>,
     difference: Difference,
@@ -79,23 +80,25 @@ fn tell_difference(
         Some(call) => call.name(),
         None => "no call",
     };
-    println!(rt;
+    writeln!(
+        to,
         "case {case}, {name}: {} is {}, in the sample {}",
         difference.part, difference.found, difference.expected
     )
 }
 
-fn tell_agreed(rt: &impl Print, call: Call, count: u32) -> io::Result<()> {
-    println!(rt; "{}: {count} agree", call.name())
+fn tell_agreed(to: &mut impl Write, call: Call, count: u32) -> io::Result<()> {
+    write!(to, "{}: {count} agree\n", call.name())
 }
 
-pub(crate) fn tell(rt: &impl Print, tally: Tally) -> io::Result<()> {
-    tell_agreed(rt, Call::Encode, tally.encode)?;
-    tell_agreed(rt, Call::Fragments, tally.fragments)?;
-    tell_agreed(rt, Call::Decode, tally.decode)?;
-    tell_agreed(rt, Call::Normalise, tally.normalise)?;
-    println!(rt;
-        "{} cases: {} agree, {} differ",
+pub(crate) fn tell(to: &mut impl Write, tally: Tally) -> io::Result<()> {
+    tell_agreed(to, Call::Encode, tally.encode)?;
+    tell_agreed(to, Call::Fragments, tally.fragments)?;
+    tell_agreed(to, Call::Decode, tally.decode)?;
+    tell_agreed(to, Call::Normalise, tally.normalise)?;
+    write!(
+        to,
+        "{} cases: {} agree, {} differ\n",
         tally.cases(),
         tally.agreed(),
         tally.differ

@@ -5,6 +5,7 @@ use crate::report::{Tally, count};
 use crate::sample::{Sample, between};
 use model::tables::number_at;
 use std::io;
+use std::io::Write;
 
 // Numbers a row.
 pub(crate) const ROW: usize = 27;
@@ -13,7 +14,11 @@ pub(crate) const ROW: usize = 27;
 const MODEL: u32 = 0;
 
 // Replays the first `rows` rows.
-pub(crate) fn replay_rows(rt: &impl Print, sample: &Sample<'_>, rows: usize) -> io::Result<Tally> {
+pub(crate) fn replay_rows(
+    to: &mut impl Write,
+    sample: &Sample<'_>,
+    rows: usize,
+) -> io::Result<Tally> {
     let mut tally = Tally::default();
     let mut model = between(sample.numbers, 0, ROW);
     for row in sample.numbers.chunks_exact(ROW).take(rows) {
@@ -23,7 +28,7 @@ pub(crate) fn replay_rows(rt: &impl Print, sample: &Sample<'_>, rows: usize) -> 
         } else {
             let call = Call::of(number);
             let outcome = cases::run(sample, model, call, row);
-            count(rt, &mut tally, call, outcome)?;
+            count(to, &mut tally, call, outcome)?;
         }
     }
     Ok(tally)

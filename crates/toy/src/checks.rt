@@ -3,9 +3,10 @@
 use crate::tables::{N_ALONE, OFFSETS_T, PIECES_T, fallback, t, u};
 use model::{AddedTokens, Answer, MergeRows, Model, Span, Step, StepList, Strings};
 use std::io;
+use std::io::Write;
 
-fn tell(rt: &impl Print, name: &str, model: &Model<'_>) -> io::Result<()> {
-    println!(rt; "{name}: {}", Answer::from(model::check(model)).number)
+fn tell(to: &mut impl Write, name: &str, model: &Model<'_>) -> io::Result<()> {
+    writeln!(to, "{name}: {}", Answer::from(model::check(model)).number)
 }
 
 // The first `len` bytes of a letter of two, in front.
@@ -17,38 +18,38 @@ fn prepend(len: u32) -> StepList<'static> {
     }
 }
 
-fn broken_offsets(rt: &impl Print, t: &Model<'_>, name: &str, end: u32) -> io::Result<()> {
+fn broken_offsets(to: &mut impl Write, t: &Model<'_>, name: &str, end: u32) -> io::Result<()> {
     let mut offsets = OFFSETS_T;
     offsets[8] = end;
     let pieces = Strings {
         offsets: &offsets,
         ..t.pieces
     };
-    tell(rt, name, &Model { pieces, ..*t })
+    tell(to, name, &Model { pieces, ..*t })
 }
 
-fn broken_pieces(rt: &impl Print, t: &Model<'_>) -> io::Result<()> {
+fn broken_pieces(to: &mut impl Write, t: &Model<'_>) -> io::Result<()> {
     let mut bytes = PIECES_T;
     bytes[2] = 0x20;
     let pieces = Strings {
         bytes: &bytes,
         ..t.pieces
     };
-    tell(rt, "T, but the mark is cut short", &Model { pieces, ..*t })
+    tell(to, "T, but the mark is cut short", &Model { pieces, ..*t })
 }
 
-fn broken_fallback(rt: &impl Print, t: &Model<'_>) -> io::Result<()> {
+fn broken_fallback(to: &mut impl Write, t: &Model<'_>) -> io::Result<()> {
     let mut fallback = fallback();
     fallback[0xA9] = 6;
     let model = Model {
         fallback: &fallback,
         ..*t
     };
-    tell(rt, "T, but A9 falls back to the piece C3", &model)
+    tell(to, "T, but A9 falls back to the piece C3", &model)
 }
 
 fn broken_token(
-    rt: &impl Print,
+    to: &mut impl Write,
     t: &Model<'_>,
     name: &str,
     contents: Strings<'_>,
@@ -57,39 +58,39 @@ fn broken_token(
         contents,
         ..N_ALONE
     };
-    tell(rt, name, &Model { first, ..*t })
+    tell(to, name, &Model { first, ..*t })
 }
 
-fn broken(rt: &impl Print, t: &Model<'_>) -> io::Result<()> {
-    broken_offsets(rt, t, "T, but a piece of 287 bytes", 300)?;
-    broken_offsets(rt, t, "T, but an offset past the end", 15)?;
-    broken_pieces(rt, t)?;
+fn broken(to: &mut impl Write, t: &Model<'_>) -> io::Result<()> {
+    broken_offsets(to, t, "T, but a piece of 287 bytes", 300)?;
+    broken_offsets(to, t, "T, but an offset past the end", 15)?;
+    broken_pieces(to, t)?;
     let lookup = Model {
         lookup: &[1, 5, 3, 2, 7, 6, 0, 4],
         ..*t
     };
-    tell(rt, "T, but two lookup entries change places", &lookup)?;
-    broken_fallback(rt, t)?;
+    tell(to, "T, but two lookup entries change places", &lookup)?;
+    broken_fallback(to, t)?;
     let rows = MergeRows {
         result: &[3, 3],
         ..t.rows
     };
-    tell(rt, "T, but the first row gives ab", &Model { rows, ..*t })?;
+    tell(to, "T, but the first row gives ab", &Model { rows, ..*t })?;
     let no_text = Strings {
         bytes: b"<\xFF>",
         offsets: &[0, 3],
     };
-    broken_token(rt, t, "T, but the token is no text", no_text)?;
+    broken_token(to, t, "T, but the token is no text", no_text)?;
     let empty = Strings {
         bytes: b"",
         offsets: &[0, 0],
     };
-    broken_token(rt, t, "T, but the token is empty", empty)?;
+    broken_token(to, t, "T, but the token is empty", empty)?;
     let half = Model {
         steps: prepend(1),
         ..*t
     };
-    tell(rt, "T, but the step string is half a letter", &half)
+    tell(to, "T, but the step string is half a letter", &half)
 }
 
 // A model with a token in its first list and a step.
@@ -101,10 +102,10 @@ fn furnished(model: Model<'_>) -> Model<'_> {
     }
 }
 
-pub(crate) fn run(rt: &impl Print) -> io::Result<()> {
+pub(crate) fn run(to: &mut impl Write) -> io::Result<()> {
     let fallback = fallback();
     let t = furnished(t(&fallback));
-    tell(rt, "T", &t)?;
-    tell(rt, "U", &furnished(u(&fallback)))?;
-    broken(rt, &t)
+    tell(to, "T", &t)?;
+    tell(to, "U", &furnished(u(&fallback)))?;
+    broken(to, &t)
 }

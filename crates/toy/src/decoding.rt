@@ -5,6 +5,7 @@ use crate::tables::{NO_STEPS, NO_TOKENS, fallback, t};
 use crate::telling::tell_bytes;
 use model::{Answer, MergeRows, Model, Strings};
 use std::io;
+use std::io::Write;
 
 // What stands in the result buffer before a call.
 const BEFORE: u8 = 0xEE;
@@ -34,7 +35,7 @@ const BYTES: Model<'static> = Model {
 };
 
 fn tell(
-    rt: &impl Print,
+    to: &mut impl Write,
     name: &str,
     model: &Model<'_>,
     ids: &[u32],
@@ -43,33 +44,34 @@ fn tell(
     let mut out = [BEFORE; ROOM];
     let out = &mut out[..room.min(ROOM)];
     let answer = Answer::from(decode::decode(model, ids, out));
-    print!(rt;
+    write!(
+        to,
         "{name}: {}, written {}, skips {}, result",
         answer.number, answer.written, answer.skips
     )?;
-    tell_bytes(rt, out)?;
-    println!(rt;)
+    tell_bytes(to, out)?;
+    writeln!(to)
 }
 
-pub(crate) fn run(rt: &impl Print) -> io::Result<()> {
+pub(crate) fn run(to: &mut impl Write) -> io::Result<()> {
     let fallback = fallback();
     let t = t(&fallback);
-    tell(rt, "T: decode 4", &t, &[4], 2)?;
-    tell(rt, "T: decode 0 99 1", &t, &[0, 99, 1], 2)?;
-    tell(rt, "T: decode 0 0 1", &t, &[0, 0, 1], 3)?;
-    tell(rt, "T: decode no ids", &t, &[], 2)?;
-    tell(rt, "T: decode 4 4", &t, &[4, 4], 2)?;
-    tell(rt, "T: decode 4 4", &t, &[4, 4], 3)?;
-    tell(rt, "T: decode 4 6", &t, &[4, 6], 6)?;
-    tell(rt, "T: decode 4 6 7", &t, &[4, 6, 7], 6)?;
+    tell(to, "T: decode 4", &t, &[4], 2)?;
+    tell(to, "T: decode 0 99 1", &t, &[0, 99, 1], 2)?;
+    tell(to, "T: decode 0 0 1", &t, &[0, 0, 1], 3)?;
+    tell(to, "T: decode no ids", &t, &[], 2)?;
+    tell(to, "T: decode 4 4", &t, &[4, 4], 2)?;
+    tell(to, "T: decode 4 4", &t, &[4, 4], 3)?;
+    tell(to, "T: decode 4 6", &t, &[4, 6], 6)?;
+    tell(to, "T: decode 4 6 7", &t, &[4, 6, 7], 6)?;
     let bytes = BYTES;
-    tell(rt, "E2 96", &bytes, &[7, 4], ROOM)?;
-    tell(rt, "E2 96 and a letter", &bytes, &[7, 4, 0], ROOM)?;
-    tell(rt, "C0 80", &bytes, &[6, 1], ROOM)?;
-    tell(rt, "a surrogate, ED A0 80", &bytes, &[8, 5, 1], ROOM)?;
-    tell(rt, "F4 90 80 80", &bytes, &[9, 3, 1, 1], ROOM)?;
+    tell(to, "E2 96", &bytes, &[7, 4], ROOM)?;
+    tell(to, "E2 96 and a letter", &bytes, &[7, 4, 0], ROOM)?;
+    tell(to, "C0 80", &bytes, &[6, 1], ROOM)?;
+    tell(to, "a surrogate, ED A0 80", &bytes, &[8, 5, 1], ROOM)?;
+    tell(to, "F4 90 80 80", &bytes, &[9, 3, 1, 1], ROOM)?;
     tell(
-        rt,
+        to,
         "a mark, an id without a piece between its bytes, and a letter",
         &bytes,
         &[7, 4, 99, 2, 0],

@@ -4,6 +4,7 @@ use crate::tables::{ALWAYS, N_ALONE, crossed_offsets, crossed_pieces, fallback, 
 use crate::telling::{Rooms, tell_bytes, tell_cells};
 use model::{AddedTokens, Answer, Metaspace, Model, PrependScheme, Span, Step, StepList, Strings};
 use std::io;
+use std::io::Write;
 
 // What stands in every cell of the result, and in every byte of scratch, before a call.
 const CELL: u32 = 9;
@@ -55,7 +56,7 @@ fn one(step: Step) -> StepList<'static> {
 }
 
 fn tell(
-    rt: &impl Print,
+    to: &mut impl Write,
     name: &str,
     model: &Model<'_>,
     text: &str,
@@ -69,57 +70,63 @@ fn tell(
     let a = &mut a[..rooms.a.min(ROOM)];
     let b = &mut b[..rooms.b.min(ROOM)];
     let answer = Answer::from(encode::encode(model, text.as_bytes(), continuation, out, a, b));
-    print!(rt; "{name}, '{text}'")?;
+    write!(to, "{name}, '{text}'")?;
     if continuation {
-        print!(rt; " continued")?;
+        write!(to, " continued")?;
     }
-    print!(rt;
+    write!(
+        to,
         ": {}, written {}, drops {}, result",
         answer.number, answer.written, answer.drops
     )?;
-    tell_cells(rt, out)?;
-    print!(rt; ", scratch")?;
-    tell_bytes(rt, a)?;
-    print!(rt; " and")?;
-    tell_bytes(rt, b)?;
-    println!(rt;)
+    tell_cells(to, out)?;
+    write!(to, ", scratch")?;
+    tell_bytes(to, a)?;
+    write!(to, " and")?;
+    tell_bytes(to, b)?;
+    writeln!(to)
 }
 
 // T itself.
 fn bare(
-    rt: &impl Print,
+    to: &mut impl Write,
     t: &Model<'_>,
     text: &str,
     continuation: bool,
     out: usize,
 ) -> io::Result<()> {
-    tell(rt, "T", t, text, continuation, Rooms { out, ..RAW })
+    tell(to, "T", t, text, continuation, Rooms { out, ..RAW })
 }
 
 // P1 to P7 of rule 14.3.
-fn table(rt: &impl Print, t: &Model<'_>, continuation: bool) -> io::Result<()> {
+fn table(to: &mut impl Write, t: &Model<'_>, continuation: bool) -> io::Result<()> {
     let u = u(t.fallback);
-    bare(rt, t, "ab a", continuation, 6)?;
-    bare(rt, t, " a", continuation, 6)?;
-    bare(rt, t, "\u{E9}", continuation, 6)?;
-    bare(rt, t, "c", continuation, 6)?;
-    bare(rt, t, "a.b", continuation, 6)?;
-    tell(rt, "U", &u, "b a", continuation, RAW)?;
-    tell(rt, "U", &u, "b b", continuation, RAW)
+    bare(to, t, "ab a", continuation, 6)?;
+    bare(to, t, " a", continuation, 6)?;
+    bare(to, t, "\u{E9}", continuation, 6)?;
+    bare(to, t, "c", continuation, 6)?;
+    bare(to, t, "a.b", continuation, 6)?;
+    tell(to, "U", &u, "b a", continuation, RAW)?;
+    tell(to, "U", &u, "b b", continuation, RAW)
 }
 
 // Characters that drop or fall back to bytes; no text; a result that is a cell short and exact.
-fn dropped(rt: &impl Print, t: &Model<'_>) -> io::Result<()> {
-    bare(rt, t, "acb", false, 6)?;
-    bare(rt, t, "\u{E9}\u{E8}", false, 6)?;
-    bare(rt, t, "", false, 6)?;
-    bare(rt, t, "ab a", false, 4)?;
-    bare(rt, t, "ab a", false, 5)?;
-    bare(rt, t, "ab a", true, 4)
+fn dropped(to: &mut impl Write, t: &Model<'_>) -> io::Result<()> {
+    bare(to, t, "acb", false, 6)?;
+    bare(to, t, "\u{E9}\u{E8}", false, 6)?;
+    bare(to, t, "", false, 6)?;
+    bare(to, t, "ab a", false, 4)?;
+    bare(to, t, "ab a", false, 5)?;
+    bare(to, t, "ab a", true, 4)
 }
 
 // Sections around tokens, empty ones among them.
-fn tokens(rt: &impl Print, name: &str, t: &Model<'_>, prepend: PrependScheme) -> io::Result<()> {
+fn tokens(
+    to: &mut impl Write,
+    name: &str,
+    t: &Model<'_>,
+    prepend: PrependScheme,
+) -> io::Result<()> {
     let model = Model {
         first: N_ALONE,
         metaspace: Some(Metaspace {
@@ -128,18 +135,18 @@ fn tokens(rt: &impl Print, name: &str, t: &Model<'_>, prepend: PrependScheme) ->
         }),
         ..*t
     };
-    tell(rt, name, &model, "a<n>b", false, RAW)?;
-    tell(rt, name, &model, "a<n>b", true, RAW)?;
-    tell(rt, name, &model, "<n>a", false, RAW)?;
-    tell(rt, name, &model, "<n>a", true, RAW)?;
-    tell(rt, name, &model, "a<n>", false, RAW)?;
-    tell(rt, name, &model, "<n><n>", false, RAW)?;
-    tell(rt, name, &model, "<n>", false, RAW)?;
-    tell(rt, name, &model, "", false, RAW)
+    tell(to, name, &model, "a<n>b", false, RAW)?;
+    tell(to, name, &model, "a<n>b", true, RAW)?;
+    tell(to, name, &model, "<n>a", false, RAW)?;
+    tell(to, name, &model, "<n>a", true, RAW)?;
+    tell(to, name, &model, "a<n>", false, RAW)?;
+    tell(to, name, &model, "<n><n>", false, RAW)?;
+    tell(to, name, &model, "<n>", false, RAW)?;
+    tell(to, name, &model, "", false, RAW)
 }
 
 // A line with four tokens as the first list of T, and one with them as its second.
-fn with_four(rt: &impl Print, t: &Model<'_>, text: &str) -> io::Result<()> {
+fn with_four(to: &mut impl Write, t: &Model<'_>, text: &str) -> io::Result<()> {
     let first = Model {
         first: FOUR_TOKENS,
         ..*t
@@ -148,9 +155,9 @@ fn with_four(rt: &impl Print, t: &Model<'_>, text: &str) -> io::Result<()> {
         second: FOUR_TOKENS,
         ..*t
     };
-    tell(rt, "T with four tokens", &first, text, false, RAW)?;
+    tell(to, "T with four tokens", &first, text, false, RAW)?;
     tell(
-        rt,
+        to,
         "T with four tokens in the second list",
         &second,
         text,
@@ -160,17 +167,17 @@ fn with_four(rt: &impl Print, t: &Model<'_>, text: &str) -> io::Result<()> {
 }
 
 // What an rstrip swallows, and sections that an lstrip shortens or leaves empty.
-fn strips(rt: &impl Print, t: &Model<'_>) -> io::Result<()> {
-    with_four(rt, t, "< b")?;
-    with_four(rt, t, "< bb")?;
-    with_four(rt, t, "a >a")?;
-    with_four(rt, t, " >a")?;
-    with_four(rt, t, "<  >")
+fn strips(to: &mut impl Write, t: &Model<'_>) -> io::Result<()> {
+    with_four(to, t, "< b")?;
+    with_four(to, t, "< bb")?;
+    with_four(to, t, "a >a")?;
+    with_four(to, t, " >a")?;
+    with_four(to, t, "<  >")
 }
 
 // T with one step.
 fn stripped(
-    rt: &impl Print,
+    to: &mut impl Write,
     t: &Model<'_>,
     text: &str,
     continuation: bool,
@@ -180,21 +187,21 @@ fn stripped(
         steps: one(STRIP),
         ..*t
     };
-    tell(rt, "T with Strip", &model, text, continuation, rooms)
+    tell(to, "T with Strip", &model, text, continuation, rooms)
 }
 
 // Scratch a byte short and exact, result a cell short and exact, both short; and a continuation.
-fn short_and_exact(rt: &impl Print, t: &Model<'_>) -> io::Result<()> {
-    stripped(rt, t, "ab a", false, Rooms { out: 5, a: 8, b: 9 })?;
-    stripped(rt, t, "ab a", false, Rooms { out: 5, a: 9, b: 8 })?;
-    stripped(rt, t, "ab a", false, Rooms { out: 4, a: 9, b: 8 })?;
-    stripped(rt, t, "ab a", false, Rooms { out: 4, a: 9, b: 9 })?;
-    stripped(rt, t, "ab a", false, Rooms { out: 5, a: 9, b: 9 })?;
-    stripped(rt, t, "ab a", true, Rooms { out: 5, a: 9, b: 9 })
+fn short_and_exact(to: &mut impl Write, t: &Model<'_>) -> io::Result<()> {
+    stripped(to, t, "ab a", false, Rooms { out: 5, a: 8, b: 9 })?;
+    stripped(to, t, "ab a", false, Rooms { out: 5, a: 9, b: 8 })?;
+    stripped(to, t, "ab a", false, Rooms { out: 4, a: 9, b: 8 })?;
+    stripped(to, t, "ab a", false, Rooms { out: 4, a: 9, b: 9 })?;
+    stripped(to, t, "ab a", false, Rooms { out: 5, a: 9, b: 9 })?;
+    stripped(to, t, "ab a", true, Rooms { out: 5, a: 9, b: 9 })
 }
 
 // Two sections, whose longest outputs have four bytes and five, and their token: six cells, the first section's two of them.
-fn two_sections(rt: &impl Print, t: &Model<'_>, out: usize, room: usize) -> io::Result<()> {
+fn two_sections(to: &mut impl Write, t: &Model<'_>, out: usize, room: usize) -> io::Result<()> {
     let model = Model {
         first: N_ALONE,
         steps: one(STRIP),
@@ -205,28 +212,28 @@ fn two_sections(rt: &impl Print, t: &Model<'_>, out: usize, room: usize) -> io::
         a: room,
         b: room,
     };
-    tell(rt, "T with <n> and Strip", &model, "a<n>ab", false, rooms)
+    tell(to, "T with <n> and Strip", &model, "a<n>ab", false, rooms)
 }
 
 // The first section's cells are short, and the last section's scratch with them or not.
-fn sections_short_and_exact(rt: &impl Print, t: &Model<'_>) -> io::Result<()> {
-    two_sections(rt, t, 1, 4)?;
-    two_sections(rt, t, 1, 5)?;
-    two_sections(rt, t, 5, 5)?;
-    two_sections(rt, t, 6, 5)
+fn sections_short_and_exact(to: &mut impl Write, t: &Model<'_>) -> io::Result<()> {
+    two_sections(to, t, 1, 4)?;
+    two_sections(to, t, 1, 5)?;
+    two_sections(to, t, 5, 5)?;
+    two_sections(to, t, 6, 5)
 }
 
 // What a step makes of nothing, and makes nothing of.
-fn emptied(rt: &impl Print, t: &Model<'_>) -> io::Result<()> {
-    stripped(rt, t, " ab a ", false, Rooms { out: 5, ..NINE })?;
-    stripped(rt, t, "  ", false, Rooms { out: 5, ..NONE })?;
-    stripped(rt, t, "", false, Rooms { out: 5, ..NONE })?;
+fn emptied(to: &mut impl Write, t: &Model<'_>) -> io::Result<()> {
+    stripped(to, t, " ab a ", false, Rooms { out: 5, ..NINE })?;
+    stripped(to, t, "  ", false, Rooms { out: 5, ..NONE })?;
+    stripped(to, t, "", false, Rooms { out: 5, ..NONE })?;
     let with_n = Model {
         first: N_ALONE,
         steps: one(STRIP),
         ..*t
     };
-    tell(rt, "T with <n> and Strip", &with_n, " <n> ", false, NONE)?;
+    tell(to, "T with <n> and Strip", &with_n, " <n> ", false, NONE)?;
     let inserts = Model {
         steps: one(INSERT),
         ..*t
@@ -235,9 +242,9 @@ fn emptied(rt: &impl Print, t: &Model<'_>) -> io::Result<()> {
         first: N_ALONE,
         ..inserts
     };
-    tell(rt, "T with a for nothing", &inserts, "", false, FOUR)?;
+    tell(to, "T with a for nothing", &inserts, "", false, FOUR)?;
     tell(
-        rt,
+        to,
         "T with <n> and a for nothing",
         &n_inserts,
         "",
@@ -248,7 +255,7 @@ fn emptied(rt: &impl Print, t: &Model<'_>) -> io::Result<()> {
 
 // U, whose piece `b▁a` stands `count` times, equal ones under one entry of the lookup list. With 33 crossings the kind is None: one unit,
 // in which what stands around a dropped character merges, and no raw path.
-fn crossings(rt: &impl Print, name: &str, t: &Model<'_>, count: usize) -> io::Result<()> {
+fn crossings(to: &mut impl Write, name: &str, t: &Model<'_>, count: usize) -> io::Result<()> {
     let bytes = crossed_pieces();
     let offsets = crossed_offsets();
     let count = count.min(33);
@@ -259,24 +266,24 @@ fn crossings(rt: &impl Print, name: &str, t: &Model<'_>, count: usize) -> io::Re
         },
         ..u(t.fallback)
     };
-    tell(rt, name, &model, "b a", false, NINE)?;
-    tell(rt, name, &model, "bc a", false, NINE)?;
-    tell(rt, name, &model, "bc a", false, Rooms { b: 8, ..NINE })?;
-    tell(rt, name, &model, "bc a", true, NINE)
+    tell(to, name, &model, "b a", false, NINE)?;
+    tell(to, name, &model, "bc a", false, NINE)?;
+    tell(to, name, &model, "bc a", false, Rooms { b: 8, ..NINE })?;
+    tell(to, name, &model, "bc a", true, NINE)
 }
 
-pub(crate) fn run(rt: &impl Print) -> io::Result<()> {
+pub(crate) fn run(to: &mut impl Write) -> io::Result<()> {
     let fallback = fallback();
     let t = t(&fallback);
-    table(rt, &t, false)?;
-    table(rt, &t, true)?;
-    dropped(rt, &t)?;
-    tokens(rt, "T with <n>", &t, PrependScheme::Always)?;
-    tokens(rt, "T with <n>, First", &t, PrependScheme::First)?;
-    strips(rt, &t)?;
-    short_and_exact(rt, &t)?;
-    sections_short_and_exact(rt, &t)?;
-    emptied(rt, &t)?;
-    crossings(rt, "U with 32 crossings", &t, 32)?;
-    crossings(rt, "U with 33 crossings", &t, 33)
+    table(to, &t, false)?;
+    table(to, &t, true)?;
+    dropped(to, &t)?;
+    tokens(to, "T with <n>", &t, PrependScheme::Always)?;
+    tokens(to, "T with <n>, First", &t, PrependScheme::First)?;
+    strips(to, &t)?;
+    short_and_exact(to, &t)?;
+    sections_short_and_exact(to, &t)?;
+    emptied(to, &t)?;
+    crossings(to, "U with 32 crossings", &t, 32)?;
+    crossings(to, "U with 33 crossings", &t, 33)
 }

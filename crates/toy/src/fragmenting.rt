@@ -4,6 +4,7 @@ use crate::tables::{fallback, t, u};
 use crate::telling::tell_cells;
 use model::{AddedTokens, Answer, Metaspace, Model, PrependScheme, Span, Step, StepList, Strings};
 use std::io;
+use std::io::Write;
 
 // The longest result buffer that is lent, and what stands in it before a call.
 const ROOM: usize = 6;
@@ -11,7 +12,7 @@ const ROOM: usize = 6;
 const BEFORE: u32 = 9;
 
 fn tell(
-    rt: &impl Print,
+    to: &mut impl Write,
     name: &str,
     model: &Model<'_>,
     text: &str,
@@ -21,12 +22,13 @@ fn tell(
     let mut out = [BEFORE; ROOM];
     let out = &mut out[..room.min(ROOM)];
     let answer = Answer::from(fragments::fragments(model, text.as_bytes(), target, out));
-    print!(rt;
+    write!(
+        to,
         "{name}: {}, written {}, result",
         answer.number, answer.written
     )?;
-    tell_cells(rt, out)?;
-    println!(rt;)
+    tell_cells(to, out)?;
+    writeln!(to)
 }
 
 // Of two steps, a Prepend of the mark and spaces turned into marks, the first `count`.
@@ -46,7 +48,7 @@ fn steps(count: usize) -> StepList<'static> {
 
 // T with one token of one byte, and some of the steps.
 fn with_token(
-    rt: &impl Print,
+    to: &mut impl Write,
     name: &str,
     content: u8,
     lstrip: bool,
@@ -69,10 +71,10 @@ fn with_token(
         steps: steps(step_count),
         ..t(&fallback)
     };
-    tell(rt, name, &model, text, 0, ROOM)
+    tell(to, name, &model, text, 0, ROOM)
 }
 
-fn plain(rt: &impl Print) -> io::Result<()> {
+fn plain(to: &mut impl Write) -> io::Result<()> {
     let fallback = fallback();
     let t = t(&fallback);
     let u = u(&fallback);
@@ -84,7 +86,7 @@ fn plain(rt: &impl Print) -> io::Result<()> {
         ..t
     };
     tell(
-        rt,
+        to,
         "T: fragments of 'a b a', target 0",
         &t,
         "a b a",
@@ -92,16 +94,16 @@ fn plain(rt: &impl Print) -> io::Result<()> {
         ROOM,
     )?;
     tell(
-        rt,
+        to,
         "U: fragments of 'a b a', target 0",
         &u,
         "a b a",
         0,
         ROOM,
     )?;
-    tell(rt, "T: fragments of 'a  b', target 2", &t, "a  b", 2, ROOM)?;
+    tell(to, "T: fragments of 'a  b', target 2", &t, "a  b", 2, ROOM)?;
     tell(
-        rt,
+        to,
         "T that splits: fragments of 'a  b', target 2",
         &split,
         "a  b",
@@ -109,16 +111,16 @@ fn plain(rt: &impl Print) -> io::Result<()> {
         ROOM,
     )?;
     tell(
-        rt,
+        to,
         "U: fragments of 'a b b', target 0",
         &u,
         "a b b",
         0,
         ROOM,
     )?;
-    tell(rt, "T: fragments of the empty text", &t, "", 0, ROOM)?;
+    tell(to, "T: fragments of the empty text", &t, "", 0, ROOM)?;
     tell(
-        rt,
+        to,
         "T: fragments of 'a b a', a cell short",
         &t,
         "a b a",
@@ -126,7 +128,7 @@ fn plain(rt: &impl Print) -> io::Result<()> {
         ROOM - 1,
     )?;
     tell(
-        rt,
+        to,
         "T: fragments of 'a b a', the largest target",
         &t,
         "a b a",
@@ -135,10 +137,10 @@ fn plain(rt: &impl Print) -> io::Result<()> {
     )
 }
 
-pub(crate) fn run(rt: &impl Print) -> io::Result<()> {
-    plain(rt)?;
+pub(crate) fn run(to: &mut impl Write) -> io::Result<()> {
+    plain(to)?;
     with_token(
-        rt,
+        to,
         "T and the token ' ': fragments of 'a a'",
         b' ',
         false,
@@ -147,7 +149,7 @@ pub(crate) fn run(rt: &impl Print) -> io::Result<()> {
         "a a",
     )?;
     with_token(
-        rt,
+        to,
         "T and the token 'b': fragments of 'ab a'",
         b'b',
         false,
@@ -156,7 +158,7 @@ pub(crate) fn run(rt: &impl Print) -> io::Result<()> {
         "ab a",
     )?;
     with_token(
-        rt,
+        to,
         "T and the token 'b' with rstrip: fragments of 'ab a'",
         b'b',
         false,
@@ -165,7 +167,7 @@ pub(crate) fn run(rt: &impl Print) -> io::Result<()> {
         "ab a",
     )?;
     with_token(
-        rt,
+        to,
         "T and the token 'a' with lstrip: fragments of 'ab a'",
         b'a',
         true,
@@ -174,7 +176,7 @@ pub(crate) fn run(rt: &impl Print) -> io::Result<()> {
         "ab a",
     )?;
     with_token(
-        rt,
+        to,
         "T, Unguarded, and the token 'b': fragments of 'ab a'",
         b'b',
         false,
@@ -183,7 +185,7 @@ pub(crate) fn run(rt: &impl Print) -> io::Result<()> {
         "ab a",
     )?;
     with_token(
-        rt,
+        to,
         "T with a Prepend alone: fragments of 'ab a'",
         b'b',
         false,

@@ -13,9 +13,10 @@ mod telling;
 use std::io;
 
 fn main(rt: HostRuntime) -> io::Result<()> {
-    checks::run(&rt)?;
-    normalising::run(&rt)?;
-    encoding::run(&rt)?;
-    fragmenting::run(&rt)?;
-    decoding::run(&rt)
+    let mut to = rt.stdout();
+    checks::run(&mut to)?;
+    normalising::run(&mut to)?;
+    encoding::run(&mut to)?;
+    fragmenting::run(&mut to)?;
+    decoding::run(&mut to)
 }

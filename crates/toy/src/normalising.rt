@@ -4,6 +4,7 @@ use crate::tables::{ALWAYS, NO_STEPS, fallback, t};
 use crate::telling::{Rooms, tell_bytes};
 use model::{Answer, Metaspace, Model, Span, Step, StepList};
 use std::io;
+use std::io::Write;
 
 // What stands in every buffer before a call.
 const BEFORE: u8 = 0xEE;
@@ -32,7 +33,7 @@ const STRIP: Step = Step::Strip {
 };
 
 fn tell(
-    rt: &impl Print,
+    to: &mut impl Write,
     name: &str,
     steps: StepList<'_>,
     metaspace: Option<Metaspace>,
@@ -52,31 +53,37 @@ fn tell(
     let a = &mut a[..rooms.a.min(ROOM)];
     let b = &mut b[..rooms.b.min(ROOM)];
     let answer = Answer::from(normalise::normalise(&model, text.as_bytes(), true, out, a, b));
-    print!(rt; "{name}: {}, result", answer.number)?;
-    tell_bytes(rt, out)?;
-    print!(rt; ", scratch")?;
-    tell_bytes(rt, a)?;
-    print!(rt; " and")?;
-    tell_bytes(rt, b)?;
-    println!(rt;)
+    write!(to, "{name}: {}, result", answer.number)?;
+    tell_bytes(to, out)?;
+    write!(to, ", scratch")?;
+    tell_bytes(to, a)?;
+    write!(to, " and")?;
+    tell_bytes(to, b)?;
+    writeln!(to)
 }
 
-fn one_step(rt: &impl Print, name: &str, step: Step, text: &str, rooms: Rooms) -> io::Result<()> {
+fn one_step(
+    to: &mut impl Write,
+    name: &str,
+    step: Step,
+    text: &str,
+    rooms: Rooms,
+) -> io::Result<()> {
     let steps = StepList {
         bytes: STEP_BYTES,
         list: [step; 16],
         count: 1,
     };
-    tell(rt, name, steps, None, text, rooms)
+    tell(to, name, steps, None, text, rooms)
 }
 
 // The letter of two bytes in front of `a`.
-fn prepend(rt: &impl Print, name: &str, out: usize, a: usize, b: usize) -> io::Result<()> {
-    one_step(rt, name, Step::Prepend(LETTER), "a", Rooms { out, a, b })
+fn prepend(to: &mut impl Write, name: &str, out: usize, a: usize, b: usize) -> io::Result<()> {
+    one_step(to, name, Step::Prepend(LETTER), "a", Rooms { out, a, b })
 }
 
 // In `aa` each `a` becomes the letter of two bytes, and that letter nothing.
-fn longer_then_shorter(rt: &impl Print, name: &str, room: usize) -> io::Result<()> {
+fn longer_then_shorter(to: &mut impl Write, name: &str, room: usize) -> io::Result<()> {
     let longer = Step::Replace {
         pattern: A,
         content: LETTER,
@@ -96,12 +103,12 @@ fn longer_then_shorter(rt: &impl Print, name: &str, room: usize) -> io::Result<(
         b: room,
         ..AMPLE
     };
-    tell(rt, name, steps, None, "aa", rooms)
+    tell(to, name, steps, None, "aa", rooms)
 }
 
-fn metaspace(rt: &impl Print, name: &str, text: &str, a: usize, b: usize) -> io::Result<()> {
+fn metaspace(to: &mut impl Write, name: &str, text: &str, a: usize, b: usize) -> io::Result<()> {
     tell(
-        rt,
+        to,
         name,
         NO_STEPS,
         Some(ALWAYS),
@@ -110,7 +117,7 @@ fn metaspace(rt: &impl Print, name: &str, text: &str, a: usize, b: usize) -> io:
     )
 }
 
-fn empty_text(rt: &impl Print) -> io::Result<()> {
+fn empty_text(to: &mut impl Write) -> io::Result<()> {
     let replace = Step::Replace {
         pattern: A,
         content: LETTER,
@@ -121,57 +128,57 @@ fn empty_text(rt: &impl Print) -> io::Result<()> {
     };
     let collapse = Step::CollapseSpaces { content: LETTER };
     one_step(
-        rt,
+        to,
         "Prepend on empty text",
         Step::Prepend(LETTER),
         "",
         AMPLE,
     )?;
-    one_step(rt, "Replace on empty text", replace, "", AMPLE)?;
+    one_step(to, "Replace on empty text", replace, "", AMPLE)?;
     one_step(
-        rt,
+        to,
         "Replace of the empty pattern on empty text",
         insert,
         "",
         AMPLE,
     )?;
-    one_step(rt, "CollapseSpaces on empty text", collapse, "", AMPLE)?;
-    one_step(rt, "Strip on empty text", STRIP, "", AMPLE)?;
-    metaspace(rt, "Metaspace on empty text", "", ROOM, ROOM)
+    one_step(to, "CollapseSpaces on empty text", collapse, "", AMPLE)?;
+    one_step(to, "Strip on empty text", STRIP, "", AMPLE)?;
+    metaspace(to, "Metaspace on empty text", "", ROOM, ROOM)
 }
 
 // An output of three bytes, one of four between two steps, and metaspace's of four.
-fn scratch_short_and_exact(rt: &impl Print) -> io::Result<()> {
-    prepend(rt, "Prepend, first scratch a byte short", ROOM, 2, 3)?;
-    prepend(rt, "Prepend, second scratch a byte short", ROOM, 3, 2)?;
-    prepend(rt, "Prepend, scratch exact", ROOM, 3, 3)?;
-    longer_then_shorter(rt, "Two steps, scratch a byte short", 3)?;
-    longer_then_shorter(rt, "Two steps, scratch exact", 4)?;
-    metaspace(rt, "Metaspace, scratch a byte short", "a", 4, 3)?;
-    metaspace(rt, "Metaspace, scratch exact", "a", 4, 4)
+fn scratch_short_and_exact(to: &mut impl Write) -> io::Result<()> {
+    prepend(to, "Prepend, first scratch a byte short", ROOM, 2, 3)?;
+    prepend(to, "Prepend, second scratch a byte short", ROOM, 3, 2)?;
+    prepend(to, "Prepend, scratch exact", ROOM, 3, 3)?;
+    longer_then_shorter(to, "Two steps, scratch a byte short", 3)?;
+    longer_then_shorter(to, "Two steps, scratch exact", 4)?;
+    metaspace(to, "Metaspace, scratch a byte short", "a", 4, 3)?;
+    metaspace(to, "Metaspace, scratch exact", "a", 4, 4)
 }
 
-fn result_short_and_exact(rt: &impl Print) -> io::Result<()> {
-    prepend(rt, "Prepend, result a byte short", 2, ROOM, ROOM)?;
-    prepend(rt, "Prepend, result exact", 3, ROOM, ROOM)
+fn result_short_and_exact(to: &mut impl Write) -> io::Result<()> {
+    prepend(to, "Prepend, result a byte short", 2, ROOM, ROOM)?;
+    prepend(to, "Prepend, result exact", 3, ROOM, ROOM)
 }
 
-pub(crate) fn run(rt: &impl Print) -> io::Result<()> {
+pub(crate) fn run(to: &mut impl Write) -> io::Result<()> {
     one_step(
-        rt,
+        to,
         "Strip of U+00A0, a, U+00A0",
         STRIP,
         "\u{A0}a\u{A0}",
         AMPLE,
     )?;
     one_step(
-        rt,
+        to,
         "Strip of U+200B, a, U+200B",
         STRIP,
         "\u{200B}a\u{200B}",
         AMPLE,
     )?;
-    empty_text(rt)?;
-    scratch_short_and_exact(rt)?;
-    result_short_and_exact(rt)
+    empty_text(to)?;
+    scratch_short_and_exact(to)?;
+    result_short_and_exact(to)
 }
