@@ -1,5 +1,5 @@
 // The calls, by the number that the sample gives each, and what one is lent.
-use model::{Answer, Model};
+use model::{Answer, Counts, Model, Refusal};
 
 #[derive(Clone, Copy)]
 pub(crate) enum Call {
@@ -42,6 +42,12 @@ pub(crate) struct Given<'a> {
     pub ids: &'a [u32],
 }
 
+// Never inlined, so that what fragments derives of the model and what encode does are not on the stack together.
+#[inline(never)]
+fn cut(model: &Model<'_>, given: Given<'_>, cells: &mut [u32]) -> Result<Counts, Refusal> {
+    fragments::fragments(model, given.text, given.target, cells)
+}
+
 pub(crate) fn run(
     call: Call,
     model: &Model<'_>,
@@ -53,7 +59,7 @@ pub(crate) fn run(
 ) -> Answer {
     let outcome = match call {
         Call::Encode => encode::encode(model, given.text, given.flag, cells, a, b),
-        Call::Fragments => fragments::fragments(model, given.text, given.target, cells),
+        Call::Fragments => cut(model, given, cells),
         Call::Decode => decode::decode(model, given.ids, bytes),
         Call::Normalise => normalise::normalise(model, given.text, given.flag, bytes, a, b),
     };

@@ -28,17 +28,6 @@ pub(crate) enum Part {
     Call,
 }
 
-// With the words that lead to a place in it.
-impl Display for Buffer {
-    fn fmt<W: fmt::Write>(&self, f: &mut Formatter<W>) -> fmt::Result {
-        match self {
-            Buffer::Result => f.write_str("the result at "),
-            Buffer::FirstScratch => f.write_str("the first scratch at "),
-            Buffer::SecondScratch => f.write_str("the second scratch at "),
-        }
-    }
-}
-
 impl Display for Part {
     fn fmt<W: fmt::Write>(&self, f: &mut Formatter<W>) -> fmt::Result {
         match self {
@@ -47,7 +36,9 @@ impl Display for Part {
             Part::Written => f.write_str("the answer's written"),
             Part::Drops => f.write_str("the answer's drops"),
             Part::Skips => f.write_str("the answer's skips"),
-            Part::Cell(buffer, at) => write!(f, "{buffer}{at}"),
+            Part::Cell(Buffer::Result, at) => write!(f, "the result at {at}"),
+            Part::Cell(Buffer::FirstScratch, at) => write!(f, "the first scratch at {at}"),
+            Part::Cell(Buffer::SecondScratch, at) => write!(f, "the second scratch at {at}"),
             Part::Room => f.write_str("the longest buffer"),
             Part::Call => f.write_str("the last call's number"),
         }

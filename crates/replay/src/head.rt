@@ -67,6 +67,7 @@ fn whole(
     Ok(())
 }
 
+// A sentence goes out in one write with its line's end, by `println!`.
 pub(crate) fn replay(
     to: &mut Stdout,
     input: &[u8],

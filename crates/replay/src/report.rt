@@ -87,6 +87,7 @@ fn tell_difference(
     )
 }
 
+// The line's end is a part of its last word here and below, so that they go out in one write.
 fn tell_agreed(to: &mut impl Write, call: Call, count: u32) -> io::Result<()> {
     write!(to, "{}: {count} agree\n", call.name())
 }

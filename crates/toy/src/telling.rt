@@ -20,6 +20,7 @@ pub(crate) fn tell_cells(to: &mut impl Write, cells: &[u32]) -> io::Result<()> {
 
 pub(crate) fn tell_bytes(to: &mut impl Write, bytes: &[u8]) -> io::Result<()> {
     for byte in bytes {
+        // Both digits go out in one write: `write!` to standard output would part them.
         let mut digits = [0u8; 2];
         let mut room = &mut digits[..];
         write!(room, "{byte:02x}")?;
