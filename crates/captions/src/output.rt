@@ -10,8 +10,8 @@ pub(crate) enum Stream {
     Errors(Stderr),
 }
 
-// What is printed goes out piece by piece, a word or a number at a time. Where a row ends with words, its `\n` is a part of them, so that they decide
-// whether the row was taken.
+// What is printed goes out piece by piece, a literal or a value at a time, so a literal is what a failed write loses: to join two or part one changes
+// that. Where a row ends with words, its `\n` is a part of them, so that they decide whether the row was taken.
 #[derive(Drop)]
 struct Pieces {
     to: Stream,
